@@ -1,0 +1,24 @@
+-- How long blocks, tags and derived keys are. Assumes nothing.
+use mathlib.Core.Path.{_≡_, refl}
+use mathlib.Core.List.{List}
+use Prim.Native.Nat.{ℕ}
+use lib.ListN.{length}
+use Rattle.cipher.specs.Aes.{aes128, blockOf, wordBytes, State}
+use Rattle.cipher.specs.Cmac.{cmac, cmacOver}
+use Rattle.cipher.specs.Kdf.{kdf, derivedKey}
+
+pub block-length : (s : State) → length (blockOf s) ≡ 16
+unfolding blockOf wordBytes
+block-length s = refl
+
+pub aes-length : (key block : List ℕ) → length (aes128 key block) ≡ 16
+unfolding aes128
+aes-length key block = block-length _
+
+pub cmac-length : (key m : List ℕ) → length (cmac key m) ≡ 16
+unfolding cmac cmacOver
+cmac-length key m = aes-length key _
+
+pub derived-length : (key prefix name : List ℕ) → length (derivedKey key prefix name) ≡ 16
+unfolding derivedKey kdf
+derived-length key prefix name = cmac-length key _
