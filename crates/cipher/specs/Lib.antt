@@ -1,6 +1,8 @@
 pub mod Field
 pub mod Sbox
 pub mod Aes
+pub mod Tables
+pub mod Columns
 pub mod Cmac
 pub mod CmacState
 pub mod Ctr

@@ -1,4 +1,7 @@
 // AES-128, CMAC, counter mode and key derivation.
+mod aes;
+mod tables;
+
 pub struct CmacState {
     pub block: [u8; 16],
     pub pending: usize,

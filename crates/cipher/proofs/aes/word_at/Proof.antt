@@ -1,0 +1,86 @@
+use mathlib.Core.Path.{_∙_}
+use native.Mathlib.Omega.{arith}
+use Rattle.cipher.specs.Aes.{wordAt}
+use Rattle.cipher.proofs.Words.{word-of, word-ext}
+use borrow.Author.Needs.{needs}
+use Rattle.cipher.proofs.aes.word_at.Statement.{statement}
+use Rattle.cipher.proofs.aes.word_at.Tie as tie
+use Rattle.cipher.proofs.aes.word_at.Reads as reads
+use Rattle.cipher.proofs.aes.word_at.Lts as lts
+use Rattle.cipher.proofs.aes.wide.Reads as wide-reads
+use Rattle.cipher.proofs.aes.word.Reads as word-reads
+
+-- src/aes.rt:127:14
+element-copy-out-wide : tie.Need-element-copy-out-wide
+element-copy-out-wide c = search needs
+
+-- src/aes.rt:127:9
+wide-requires : tie.Need-wide-requires
+wide-requires c κs = search needs
+
+-- src/aes.rt:128:20
+add-wide : tie.Need-add-wide
+add-wide c = search needs
+
+-- src/aes.rt:128:14
+element-copy-out-wide-2 : tie.Need-element-copy-out-wide-2
+element-copy-out-wide-2 c = search needs
+
+-- src/aes.rt:128:9
+wide-requires-2 : tie.Need-wide-requires-2
+wide-requires-2 c κs = search needs
+
+-- src/aes.rt:129:20
+add-wide-2 : tie.Need-add-wide-2
+add-wide-2 c = search needs
+
+-- src/aes.rt:129:14
+element-copy-out-wide-3 : tie.Need-element-copy-out-wide-3
+element-copy-out-wide-3 c = search needs
+
+-- src/aes.rt:129:9
+wide-requires-3 : tie.Need-wide-requires-3
+wide-requires-3 c κs = search needs
+
+-- src/aes.rt:130:20
+add-wide-3 : tie.Need-add-wide-3
+add-wide-3 c = search needs
+
+-- src/aes.rt:130:14
+element-copy-out-wide-4 : tie.Need-element-copy-out-wide-4
+element-copy-out-wide-4 c = search needs
+
+-- src/aes.rt:130:9
+wide-requires-4 : tie.Need-wide-requires-4
+wide-requires-4 c κs = search needs
+
+-- src/aes.rt:126:5
+word-requires : tie.Need-word-requires
+word-requires c κs = omega arith
+
+-- src/aes.rt:122:1
+returns : tie.Need-returns
+unfolding wordAt
+returns c = let b0 = c .before .before .before .before .before .before .before .wide .ensures in
+    let b1 = c .before .before .before .before .before .wide2 .ensures in
+    let b2 = c .before .before .before .wide3 .ensures in
+    let b3 = c .before .wide4 .ensures in
+    word-of _ _ _ _ _ (b0 .1) (b1 .1) (b2 .1) (b3 .1) (c .word .ensures) ∙ word-ext (b0 .0) (b1 .0) (b2 .0) (b3 .0)
+
+pub word-at-spec : {M : Type 1} → statement M
+word-at-spec =
+    tie.close
+    (tie.spec
+    element-copy-out-wide
+    wide-requires
+    add-wide
+    element-copy-out-wide-2
+    wide-requires-2
+    add-wide-2
+    element-copy-out-wide-3
+    wide-requires-3
+    add-wide-3
+    element-copy-out-wide-4
+    wide-requires-4
+    word-requires
+    returns)
