@@ -3,3 +3,6 @@ pub mod Words
 pub mod Ctr
 pub mod Lengths
 pub mod Mix
+pub mod KeySchedule
+pub mod Expanded
+pub mod Arrays

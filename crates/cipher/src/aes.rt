@@ -1,9 +1,12 @@
 // AES-128 (FIPS 197). Inside, the state is four 32-bit columns, each with its first byte highest.
+use crate::tables;
 ghost use mathlib.Core.Path.{_≡_};
-ghost use Prim.Native.Nat.{_+_, _*_, _<_};
+ghost use mathlib.Core.List.{_++_};
+ghost use lib.ListN.{length, take, drop};
+ghost use Prim.Native.Nat.{_+_, _*_, _≤_, _<_};
 ghost use Rattle.cipher.specs.Sbox.{subByte, sbox};
 ghost use Rattle.cipher.specs.Tables.{mixTable, mixWord};
-ghost use Rattle.cipher.specs.Aes.{numberWord, rotWord, subWord, mixColumn, diagonal, wordAt, stateOf, blockOf, subBytes, shiftRows, mixColumns, addRoundKey, keptKey, encryptWith};
+ghost use Rattle.cipher.specs.Aes.{numberWord, rotWord, subWord, mixColumn, diagonal, wordAt, stateOf, blockOf, subBytes, shiftRows, mixColumns, addRoundKey, keptKey, encryptWith, rcon, nextRoundKey, stateNumbers, expandKey, aes128};
 ghost use Rattle.cipher.specs.Columns.{columnsState};
 
 pub struct Columns {
@@ -165,6 +168,66 @@ fn store(s: Columns) -> [u8; 16]
     ]
 }
 
+const RCON: [u32; 10] = [
+    0x01000000,
+    0x02000000,
+    0x04000000,
+    0x08000000,
+    0x10000000,
+    0x20000000,
+    0x40000000,
+    0x80000000,
+    0x1b000000,
+    0x36000000,
+];
+
+fn round_constant(i: usize) -> u32
+    requires { ⌜ i < 10 ⌝ }
+    ensures { λ r. ⌜ numberWord r ≡ rcon i ⌝ }
+{
+    RCON[i]
+}
+
+fn next_round_key(sub: &[u8; 256], i: usize, k: Columns) -> Columns
+    requires { ⌜ (now sub ≡ sbox) × (i < 10) ⌝ }
+    ensures { λ n. ⌜ columnsState n ≡ nextRoundKey i (columnsState k) ⌝ }
+{
+    let t = rotate_right_24(k.c3);
+    let c0 = k.c0 ^ (substituted(sub, t, t, t, t) ^ round_constant(i));
+    let c1 = k.c1 ^ c0;
+    let c2 = k.c2 ^ c1;
+    let c3 = k.c3 ^ c2;
+    Columns { c0, c1, c2, c3 }
+}
+
+fn put_round_key(keys: &mut [u32], r: usize, k: Columns)
+    requires { ⌜ 4 * r + 4 ≤ length (now keys) ⌝ }
+    ensures { λ _. ⌜ now (keys .exit) ≡ take (4 * r) (now (keys .entry)) ++ stateNumbers (columnsState k) ++ drop (4 * r + 4) (now (keys .entry)) ⌝ }
+{
+    let i = 4 * r;
+    keys[i] = k.c0;
+    keys[i + 1] = k.c1;
+    keys[i + 2] = k.c2;
+    keys[i + 3] = k.c3;
+}
+
+// The 44 words of FIPS 197's key expansion, each with its first byte highest.
+pub fn expand_key(key: &[u8; 16]) -> [u32; 44]
+    ensures { λ r. ⌜ r ≡ expandKey (now (key .entry)) ⌝ }
+{
+    let sub = tables::sbox_table();
+    let mut keys = [0u32; 44];
+    let mut k = load(key);
+    put_round_key(&mut keys, 0, k);
+    let mut r = 0;
+    while r < 10 {
+        k = next_round_key(&sub, r, k);
+        r += 1;
+        put_round_key(&mut keys, r, k);
+    }
+    keys
+}
+
 // A block under an expanded key, with the tables lent.
 pub(crate) fn encrypt_block(
     mix: &[u32; 256],
@@ -182,4 +245,14 @@ pub(crate) fn encrypt_block(
         s = add_round_key(keys, r, mix_columns(mix, s));
     }
     store(add_round_key(keys, 10, shift_rows(sub, s)))
+}
+
+// AES-128: a block encrypted under a key.
+pub fn aes128_encrypt(key: [u8; 16], block: [u8; 16]) -> [u8; 16]
+    ensures { λ r. ⌜ r ≡ aes128 key block ⌝ }
+{
+    let mix = tables::mix_table();
+    let sub = tables::sbox_table();
+    let keys = expand_key(&key);
+    encrypt_block(&mix, &sub, &keys, &block)
 }

@@ -1,0 +1,75 @@
+-- The key schedule: round constants, bytes, and an expanded key read back. Assumes nothing.
+use mathlib.Core.Path.{_≡_, refl, sym, ap, ap₂, _∙_}
+use mathlib.Core.List.{List, [], _∷_, _++_}
+use Prim.Native.Nat.{ℕ, zero, suc, _+_, _*_, _≤_, _<_}
+use native.Mathlib.Nat.{zero-add}
+use native.Mathlib.Numerals.{add-one, add-two, add-three}
+use native.Mathlib.Omega.{arith}
+use lib.Dec.{lit<}
+use lib.Bits.{bitXor, xor-lt}
+use lib.ListN.{length, length-append, length-take, getD, take, drop, set}
+use lib.Seq.{sets-eq, take-at}
+use Rattle.cipher.specs.Field.{xtime}
+use Rattle.cipher.specs.Sbox.{tableFrom}
+use Rattle.cipher.specs.Aes.{Word, State, numberWord, wordNumber, xorWord, subWord, rotWord, diagonal, rcon, rconByte, nextRoundKey, roundKey, stateNumbers, expandTo}
+use Rattle.cipher.proofs.Words.{table-at, number-word, number-xor, state-ext}
+use Rattle.cipher.proofs.Mix.{xtime-lt}
+
+-- Rcon as the code has it
+unfoldable pub table : List ℕ
+table =
+    0x01000000 ∷ 0x02000000 ∷ 0x04000000 ∷ 0x08000000 ∷ 0x10000000 ∷ 0x20000000 ∷ 0x40000000 ∷ 0x80000000 ∷ 0x1b000000 ∷ 0x36000000 ∷ []
+
+table-right : table ≡ tableFrom (λ i. wordNumber (rcon i)) 10 0
+unfolding table tableFrom wordNumber rcon rconByte xtime
+table-right = refl
+
+pub constant-at : (i : ℕ) → i < 10 → getD table i 0 ≡ wordNumber (rcon i)
+constant-at i h = ap (λ (l : List ℕ). getD l i 0) table-right ∙ table-at (λ j. wordNumber (rcon j)) 10 0 i h ∙ ap (λ (j : ℕ). wordNumber (rcon j)) (zero-add i)
+
+pub rcon-lt : (i : ℕ) → rconByte i < 256
+unfolding rconByte
+rcon-lt zero = lit< tt
+rcon-lt (suc i) = xtime-lt (rconByte i) (rcon-lt i)
+
+pub number-constant : (i : ℕ) → numberWord (wordNumber (rcon i)) ≡ rcon i
+unfolding rcon
+number-constant i = number-word _ (rcon-lt i) (lit< tt) (lit< tt) (lit< tt)
+
+-- one round key from another, in numbers: t is RotWord, s its SubWord, r the round constant
+pub next-numbers : (i k0 k1 k2 k3 t s r : ℕ) → numberWord t ≡ rotWord (numberWord k3)
+    → numberWord s ≡ subWord (diagonal (numberWord t) (numberWord t) (numberWord t) (numberWord t)) → numberWord r ≡ rcon i
+    → let n0 = bitXor k0 (bitXor s r) in
+    let n1 = bitXor k1 n0 in
+    let n2 = bitXor k2 n1 in
+    let old : State = record { c0 = numberWord k0; c1 = numberWord k1; c2 = numberWord k2; c3 = numberWord k3 } in
+    _≡_ {A = State} (record { c0 = numberWord n0; c1 = numberWord n1; c2 = numberWord n2; c3 = numberWord (bitXor k3 n2) }) (nextRoundKey i old)
+unfolding nextRoundKey diagonal
+next-numbers i k0 k1 k2 k3 t s r ht hs hr =
+    let n0 = bitXor k0 (bitXor s r) in
+    let n1 = bitXor k1 n0 in
+    let e0 = number-xor k0 (bitXor s r) ∙ ap (xorWord (numberWord k0)) (number-xor s r ∙ ap₂ xorWord (hs ∙ ap subWord ht) hr) in
+    let e1 = number-xor k1 n0 ∙ ap (xorWord (numberWord k1)) e0 in
+    let e2 = number-xor k2 n1 ∙ ap (xorWord (numberWord k2)) e1 in
+    state-ext e0 e1 e2 (number-xor k3 (bitXor k2 n1) ∙ ap (xorWord (numberWord k3)) e2)
+
+-- four stores in a row
+pub put-four : (l : List ℕ) (i a b c d : ℕ) → i + 4 ≤ length l
+    → set (set (set (set l i a) (i + 1) b) (i + 2) c) (i + 3) d ≡ take i l ++ (a ∷ b ∷ c ∷ d ∷ []) ++ drop (i + 4) l
+put-four l i a b c d h = rw (add-one i, add-two i, add-three i) (sets-eq (a ∷ b ∷ c ∷ d ∷ []) l i h)
+
+-- what stands in front after a round key is put at its place
+pub put-front : (l m : List ℕ) (r : ℕ) (s : State) → 4 * r + 4 ≤ length l
+    → m ≡ take (4 * r) l ++ stateNumbers s ++ drop (4 * r + 4) l → take (4 * r + 4) m ≡ take (4 * r) l ++ stateNumbers s
+unfolding stateNumbers
+put-front l m r s h e =
+    rw e (take-at (take (4 * r) l ++ stateNumbers s) (drop (4 * r + 4) l) (4 * r + 4) (length-append (take (4 * r) l) (stateNumbers s) ∙ simp length-take (omega arith)))
+
+pub expand-step : (key l m : List ℕ) (r : ℕ) (s : State) → 4 * (r + 1) + 4 ≤ length l
+    → m ≡ take (4 * (r + 1)) l ++ stateNumbers s ++ drop (4 * (r + 1) + 4) l
+    → take (4 * r + 4) l ≡ expandTo key r → s ≡ roundKey key (r + 1) → take (4 * (r + 1) + 4) m ≡ expandTo key (r + 1)
+unfolding expandTo
+expand-step key l m r s h e f g =
+    let four : 4 * (r + 1) ≡ 4 * r + 4 = omega arith in
+    let front : take (4 * (r + 1)) l ≡ expandTo key r = rw four f in
+    put-front l m (r + 1) s h e ∙ ap₂ (λ (p q : List ℕ). p ++ q) front (ap stateNumbers g) ∙ rw add-one
