@@ -1,7 +1,6 @@
 -- An expanded key, read back, is the key schedule: what is encrypted under it is encrypted under the key. Assumes nothing.
 use mathlib.Core.Path.{_≡_, refl, sym, ap, ap₂, _∙_}
 use mathlib.Core.List.{List, [], _∷_, _++_}
-use mathlib.Core.Bool.{Bool, true, false}
 use Prim.Native.Nat.{ℕ, zero, suc, _+_, _*_, _≤_, _<_}
 use native.Mathlib.Nat.{add-zero}
 use native.Mathlib.Omega.{arith}
@@ -11,6 +10,7 @@ use lib.Bits.{xor-lt}
 use lib.ListN.{length, length-append, getD, List·getD-append}
 use lib.Seq.{getD-append-add}
 use Rattle.cipher.specs.Aes.{Word, State, numberWord, wordNumber, xorWord, subWord, rotWord, rcon, nextRoundKey, roundKey, stateOf, wordAt, stateNumbers, expandTo, expandKey, keptKey, cipher, afterRounds, addRoundKey, mixColumns, shiftRows, subBytes, blockOf, aes128, encryptWith}
+use Rattle.cipher.proofs.Cases.{by-test}
 use Rattle.cipher.proofs.Words.{number-word, state-ext}
 use Rattle.cipher.proofs.Mix.{sub-lt}
 use Rattle.cipher.proofs.KeySchedule.{rcon-lt}
@@ -89,11 +89,7 @@ expand-length key (suc r) = length-append (expandTo key r) (stateNumbers (roundK
 
 -- up to n + 1: up to n, or n + 1 itself
 last-or : {A : Type 0} (r n : ℕ) → r ≤ suc n → (r ≤ n → A) → (r ≡ suc n → A) → A
-last-or {A} r n h f g = go (leb r n) refl
-  where
-    go : (b : Bool) → leb r n ≡ b → A
-    go true e = f (leb-true r n e)
-    go false e = g (let k = leb-false r n e in omega arith)
+last-or r n h f g = by-test (leb r n) (λ e. f (leb-true r n e)) (λ e. g (let k = leb-false r n e in omega arith))
 
 module _ (key : List ℕ) (h : (i : ℕ) → getD key i 0 < 256) where
   kept-expanded : (n r : ℕ) → r ≤ n → keptKey (expandTo key n) r ≡ roundKey key r

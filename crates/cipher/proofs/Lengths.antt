@@ -3,7 +3,7 @@ use mathlib.Core.Path.{_≡_, refl}
 use mathlib.Core.List.{List}
 use Prim.Native.Nat.{ℕ}
 use lib.ListN.{length}
-use Rattle.cipher.specs.Aes.{aes128, blockOf, wordBytes, State}
+use Rattle.cipher.specs.Aes.{aes128, encryptWith, blockOf, wordBytes, State}
 use Rattle.cipher.specs.Cmac.{cmac, cmacOver}
 use Rattle.cipher.specs.Kdf.{kdf, derivedKey}
 
@@ -14,6 +14,10 @@ block-length s = refl
 pub aes-length : (key block : List ℕ) → length (aes128 key block) ≡ 16
 unfolding aes128
 aes-length key block = block-length _
+
+pub with-length : (keys block : List ℕ) → length (encryptWith keys block) ≡ 16
+unfolding encryptWith
+with-length keys block = block-length _
 
 pub cmac-length : (key m : List ℕ) → length (cmac key m) ≡ 16
 unfolding cmac cmacOver

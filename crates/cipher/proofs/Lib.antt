@@ -1,8 +1,16 @@
 pub mod Xor
 pub mod Words
-pub mod Ctr
+pub mod CtrLaws
 pub mod Lengths
 pub mod Mix
 pub mod KeySchedule
 pub mod Expanded
 pub mod Arrays
+pub mod Blocks
+pub mod Fold
+pub mod Cases
+pub mod Feeds
+pub mod Tag
+pub mod Salt
+pub mod Stream
+pub mod Inverse

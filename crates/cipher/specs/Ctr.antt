@@ -15,18 +15,20 @@ be64 n =
 unfoldable pub counterBlock : List ℕ → ℕ → List ℕ
 counterBlock iv count = iv ++ be64 count
 
--- byte j of the key stream: byte j % 16 of the output block O of block j / 16. The count wraps at 2^64.
-unfoldable pub streamByte : List ℕ → List ℕ → ℕ → ℕ → ℕ
-streamByte key iv count j = getD (aes128 key (counterBlock iv ((count + j / 16) % 2 ^ 64))) (j % 16) 0
+-- over a block cipher CIPH_K
+module _ (ciph : List ℕ → List ℕ) where
+  -- byte j of the key stream: byte j % 16 of the output block O of block j / 16. The count wraps at 2^64.
+  unfoldable pub streamByte : List ℕ → ℕ → ℕ → ℕ
+  streamByte iv count j = getD (ciph (counterBlock iv ((count + j / 16) % 2 ^ 64))) (j % 16) 0
 
--- bytes j, j + 1, .. of a message, each added to its byte of the key stream
-unfoldable pub ctrFrom : List ℕ → List ℕ → ℕ → ℕ → List ℕ → List ℕ
-ctrFrom key iv count j [] = []
-ctrFrom key iv count j (b ∷ bs) = bitXor b (streamByte key iv count j) ∷ ctrFrom key iv count (suc j) bs
+  -- bytes j, j + 1, .. of a message, each added to its byte of the key stream
+  unfoldable pub ctrFrom : List ℕ → ℕ → ℕ → List ℕ → List ℕ
+  ctrFrom iv count j [] = []
+  ctrFrom iv count j (b ∷ bs) = bitXor b (streamByte iv count j) ∷ ctrFrom iv count (suc j) bs
 
 -- a message in counter mode from a start count: encryption and decryption alike
 unfoldable pub ctrAt : List ℕ → List ℕ → ℕ → List ℕ → List ℕ
-ctrAt key iv count m = ctrFrom key iv count 0 m
+ctrAt key iv count m = ctrFrom (aes128 key) iv count 0 m
 
 -- 01: the count starts at 0
 unfoldable pub ctr : List ℕ → List ℕ → List ℕ → List ℕ

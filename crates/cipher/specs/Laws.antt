@@ -3,7 +3,7 @@ use mathlib.Core.Path.{_≡_}
 use mathlib.Core.List.{List, [], _∷_, _++_, foldl}
 use Prim.Native.Nat.{ℕ, _<_}
 use lib.ListN.{length, getD}
-use Rattle.cipher.specs.declared.CmacState.{CmacState}
+use Rattle.cipher.specs.declared.cmac.CmacState.{CmacState}
 use Rattle.cipher.specs.Field.{mul}
 use Rattle.cipher.specs.Sbox.{inverse}
 use Rattle.cipher.specs.Cmac.{cmac}

@@ -1,0 +1,52 @@
+-- Feeding in parts is feeding the whole. Assumes nothing.
+use mathlib.Core.Path.{_≡_, refl, sym, ap, _∙_}
+use mathlib.Core.List.{List, [], _∷_, _++_, foldl, foldl-append}
+use Prim.Native.Nat.{ℕ, _≤_, min}
+use native.Mathlib.Nat.{min-eq-left, min-le-right}
+use native.Mathlib.Omega.{arith}
+use lib.Dec.{ltb}
+use borrow.Author.Tests.{ltb-true}
+use Rattle.cipher.specs.declared.cmac.CmacState.{CmacState}
+use Rattle.cipher.specs.CmacState.{clamped, fedByte, fed}
+use Rattle.cipher.specs.Laws.{FeedAppend, concatAll}
+use Rattle.cipher.proofs.Cases.{by-test}
+use Rattle.cipher.proofs.Fold.{state}
+
+-- one byte leaves at most a full block pending, and the key as it was
+byte-pending : (s : CmacState) (b : ℕ) → fedByte s b .pending ≤ 16
+unfolding fedByte
+byte-pending s b = by-test (ltb (s .pending) 16) (λ e. rw e (omega (arith, ltb-true (s .pending) 16 e))) (λ e. rw e (omega arith))
+
+byte-keys : (s : CmacState) (b : ℕ) → fedByte s b .keys ≡ s .keys
+unfolding fedByte
+byte-keys s b = by-test (ltb (s .pending) 16) (λ e. rw e) (λ e. rw e)
+
+fold-pending : (s : CmacState) (m : List ℕ) → s .pending ≤ 16 → foldl fedByte s m .pending ≤ 16
+fold-pending s [] h = h
+fold-pending s (b ∷ m) h = fold-pending (fedByte s b) m (byte-pending s b)
+
+fold-keys : (s : CmacState) (m : List ℕ) → foldl fedByte s m .keys ≡ s .keys
+fold-keys s [] = refl
+fold-keys s (b ∷ m) = fold-keys (fedByte s b) m ∙ byte-keys s b
+
+pub fed-keys : (s : CmacState) (m : List ℕ) → fed s m .keys ≡ s .keys
+unfolding fed clamped
+fed-keys s m = fold-keys (clamped s) m
+
+-- a state that claims no more than a block is left alone
+pub clamped-same : (s : CmacState) → s .pending ≤ 16 → clamped s ≡ s
+unfolding clamped
+clamped-same s h = ap (λ (p : ℕ). state (s .block) p (s .keys)) (min-eq-left h)
+
+pub fed-pending : (s : CmacState) (m : List ℕ) → fed s m .pending ≤ 16
+unfolding fed clamped
+fed-pending s m = fold-pending (clamped s) m (min-le-right (s .pending) 16)
+
+pub feed-append : FeedAppend
+unfolding fed
+feed-append s a b = ap (λ (t : CmacState). foldl fedByte t b) (clamped-same (fed s a) (fed-pending s a)) ∙ sym (foldl-append fedByte (clamped s) a b)
+
+pub feed-parts : (s : CmacState) (parts : List (List ℕ)) → s .pending ≤ 16 → foldl fed s parts ≡ fed s (concatAll parts)
+unfolding fed
+feed-parts s [] h = sym (clamped-same s h)
+feed-parts s (p ∷ parts) h = feed-parts (fed s p) parts (fed-pending s p) ∙ feed-append s p (concatAll parts)

@@ -1,0 +1,154 @@
+-- The finished state's block is SP 800-38B's tag of the message. Assumes nothing.
+use mathlib.Core.Path.{_≡_, refl, sym, ap, ap₂, fun-ext, _∙_}
+use mathlib.Core.Bool.{cond}
+use mathlib.Core.List.{List, [], _∷_, _++_, append-assoc, append-nil, zipWith, foldl, foldl-append}
+use Prim.Native.Nat.{ℕ, zero, suc, _+_, _-_, _*_, _/_, _≤_, _<_, min}
+use native.Mathlib.Nat.{add-zero, zero-add, le-of-suc-le-suc, min-eq-left}
+use native.Mathlib.Numerals.{add-one}
+use native.Mathlib.Omega.{arith}
+use lib.Bits.{bitXor, xor-zero-r}
+use lib.Dec.{ltb, lit<}
+use lib.ListN.{length, length-append, length-take, length-drop, length-replicate, getD, set, take, drop, replicate, take-append-drop}
+use lib.Seq.{drop-drop}
+use borrow.Author.Tests.{ltb-true, ltb-false, eq-eqb, ne-eqb}
+use Rattle.cipher.specs.declared.cmac.CmacState.{CmacState}
+use Rattle.cipher.specs.Aes.{aes128, encryptWith, expandKey}
+use Rattle.cipher.specs.Cmac.{xorBytes, double, subkey1, subkey2, lastBlock, chain, before, cmacOver, cmac}
+use Rattle.cipher.specs.CmacState.{keyed, begun, clamped, xorAt, fedByte, fed, closedBlock, finished}
+use Rattle.cipher.specs.Laws.{TagOfParts, Bytes, concatAll}
+use Rattle.cipher.proofs.Xor.{xor-assoc}
+use Rattle.cipher.proofs.Cases.{by-test}
+use Rattle.cipher.proofs.Lengths.{with-length}
+use Rattle.cipher.proofs.Fold.{state, fed-short, fed-full}
+use Rattle.cipher.proofs.Feeds.{fed-keys, feed-parts}
+use Rattle.cipher.proofs.Expanded.{encrypt-expanded}
+
+pub xor-bytes-assoc : (a b c : List ℕ) → xorBytes (xorBytes a b) c ≡ xorBytes a (xorBytes b c)
+unfolding xorBytes zipWith
+xor-bytes-assoc [] b c = refl
+xor-bytes-assoc (x ∷ a) [] c = refl
+xor-bytes-assoc (x ∷ a) (y ∷ b) [] = refl
+xor-bytes-assoc (x ∷ a) (y ∷ b) (z ∷ c) = ap₂ (λ (u : ℕ) (l : List ℕ). u ∷ l) (xor-assoc x y z) (xor-bytes-assoc a b c)
+
+-- w added to a block from place p on, byte by byte
+abbrev xorFrom : List ℕ → ℕ → List ℕ → List ℕ
+xorFrom c p [] = c
+xorFrom c p (b ∷ w) = xorFrom (xorAt c p b) (suc p) w
+
+xor-later : (x : ℕ) (c : List ℕ) (p : ℕ) (w : List ℕ) → xorFrom (x ∷ c) (suc p) w ≡ x ∷ xorFrom c p w
+unfolding xorAt
+xor-later x c p [] = refl
+xor-later x c p (b ∷ w) = xor-later x (xorAt c p b) (suc p) w
+
+-- what is added to a block, and zeros behind it
+xor-from : (c w : List ℕ) (k : ℕ) → length c ≡ length w + k → xorFrom c 0 w ≡ xorBytes c (w ++ replicate k 0)
+unfolding xorBytes zipWith xorAt
+xor-from [] [] zero e = refl
+xor-from [] [] (suc k) e = refl
+xor-from [] (b ∷ w) k e = absurd (omega arith)
+xor-from (x ∷ c) [] zero e = absurd (omega arith)
+xor-from (x ∷ c) [] (suc k) e = ap₂ (λ (u : ℕ) (l : List ℕ). u ∷ l) (sym (xor-zero-r x)) (xor-from c [] k (omega arith))
+xor-from (x ∷ c) (b ∷ w) k e = xor-later (bitXor x b) c 0 w ∙ ap (λ (l : List ℕ). bitXor x b ∷ l) (xor-from c w k (omega arith))
+
+xor-length : (c : List ℕ) (p : ℕ) (w : List ℕ) → xorFrom c p (w ++ 0x80 ∷ []) ≡ xorAt (xorFrom c p w) (p + length w) 0x80
+xor-length c p [] = rw add-zero
+xor-length c p (b ∷ w) = xor-length (xorAt c p b) (suc p) w ∙ ap (λ (i : ℕ). xorAt (xorFrom (xorAt c p b) (suc p) w) i 0x80) (omega arith)
+
+module _ (keys : List ℕ) where
+  abbrev ciph : List ℕ → List ℕ
+  ciph = encryptWith keys
+
+  -- bytes that fit in the block
+  fold-within : (w c : List ℕ) (p : ℕ) → p + length w ≤ 16 → foldl fedByte (state c p keys) w ≡ state (xorFrom c p w) (p + length w) keys
+  unfolding xorAt
+  fold-within [] c p h = ap (λ (i : ℕ). state c i keys) (sym (add-zero p))
+  fold-within (b ∷ w) c p h =
+      ap (λ (s : CmacState). foldl fedByte s w) (fed-short c keys p b (omega arith) ∙ ap (λ (i : ℕ). state (xorAt c p b) i keys) (add-one p))
+      ∙ fold-within w (xorAt c p b) (suc p) (omega arith) ∙ ap (λ (i : ℕ). state (xorFrom (xorAt c p b) (suc p) w) i keys) (omega arith)
+
+  -- a full block is encrypted when the next byte comes
+  fold-next : (x : List ℕ) (b : ℕ) (w : List ℕ) → foldl fedByte (state x 16 keys) (b ∷ w) ≡ foldl fedByte (state (ciph x) 0 keys) (b ∷ w)
+  fold-next x b w =
+      ap (λ (s : CmacState). foldl fedByte s w) (fed-full x keys 16 b (omega arith) ∙ sym (fed-short (ciph x) keys 0 b (omega arith)))
+
+  -- the message's last block
+  close-last : (c w : List ℕ) → length c ≡ 16 → length w ≤ 16
+      → closedBlock (xorFrom c 0 w) (length w) (subkey1 ciph) ≡ xorBytes c (lastBlock ciph w)
+  unfolding closedBlock lastBlock subkey2
+  close-last c w hc hw =
+      by-test (ltb (length w) 16)
+      (λ e.
+      let h = ltb-true (length w) 16 e in
+      rw (e, ne-eqb (length w) 16 (λ q. omega arith))
+      (ap (λ (l : List ℕ). xorBytes l (double (subkey1 ciph)))
+      (sym (xor-length c 0 w ∙ ap (λ (i : ℕ). xorAt (xorFrom c 0 w) i 0x80) (zero-add (length w)))
+      ∙ xor-from c (w ++ 0x80 ∷ []) (15 - length w) (rw length-append (omega arith)) ∙ ap (xorBytes c) (append-assoc w (0x80 ∷ []) (replicate (15 - length w) 0)))
+      ∙ xor-bytes-assoc c (w ++ 0x80 ∷ replicate (15 - length w) 0) (double (subkey1 ciph))))
+      (λ e.
+      let h = ltb-false (length w) 16 e in
+      let full : length w ≡ 16 = omega arith in
+      rw (e, eq-eqb (length w) 16 full)
+      (ap (λ (l : List ℕ). xorBytes l (subkey1 ciph)) (xor-from c w 0 (omega arith) ∙ ap (xorBytes c) (append-nil w))
+      ∙ xor-bytes-assoc c w (subkey1 ciph)))
+
+  fold-more : (x w : List ℕ) → 0 < length w → foldl fedByte (state x 16 keys) w ≡ foldl fedByte (state (ciph x) 0 keys) w
+  fold-more x [] h = absurd (omega arith)
+  fold-more x (b ∷ w) h = fold-next x b w
+
+  -- a message of n whole blocks and a last one, from the chaining block c
+  abbrev closing : CmacState → List ℕ
+  closing s = closedBlock (s .block) (min (s .pending) 16) (subkey1 ciph)
+
+  tag-blocks : (n : ℕ) (c m : List ℕ) → length c ≡ 16 → n ≡ (length m - 1) / 16
+      → closing (foldl fedByte (state c 0 keys) m) ≡ xorBytes (chain ciph n c m) (lastBlock ciph (drop (16 * n) m))
+  unfolding chain
+  tag-blocks zero c m hc hn =
+      let short : length m ≤ 16 = omega arith in
+      ap closing (fold-within m c 0 (omega arith))
+      ∙ ap (λ (p : ℕ). closedBlock (xorFrom c 0 m) p (subkey1 ciph)) (ap (λ (p : ℕ). min p 16) (zero-add (length m)) ∙ min-eq-left short)
+      ∙ close-last c m hc short
+  tag-blocks (suc n) c m hc hn =
+      let front = take 16 m in
+      let rest = drop 16 m in
+      let long : 16 < length m = omega arith in
+      let sixteen : length front ≡ 16 = length-take 16 m ∙ omega arith in
+      let x = xorBytes c front in
+      let next : 16 + 16 * n ≡ 16 * suc n = omega arith in
+      let filled : foldl fedByte (state c 0 keys) front ≡ state x 16 keys =
+      fold-within front c 0 (omega arith)
+      ∙ ap₂ (λ (l : List ℕ) (p : ℕ). state l p keys) (xor-from c front 0 (omega arith) ∙ ap (xorBytes c) (append-nil front)) (omega arith) in
+      let run : foldl fedByte (state c 0 keys) m ≡ foldl fedByte (state (ciph x) 0 keys) rest =
+      ap (foldl fedByte (state c 0 keys)) (sym (take-append-drop 16 m))
+      ∙ foldl-append fedByte (state c 0 keys) front rest
+      ∙ ap (λ (s : CmacState). foldl fedByte s rest) filled
+      ∙ fold-more x rest (rw length-drop (omega arith)) in
+      ap closing run
+      ∙ tag-blocks n (ciph x) rest (with-length keys x) (rw length-drop (omega arith))
+      ∙ ap (λ (l : List ℕ). xorBytes (chain ciph n (ciph x) rest) (lastBlock ciph l)) (drop-drop (16 * n) 16 m ∙ ap (λ (k : ℕ). drop k m) next)
+
+finish-block : (s : CmacState) (ks : List ℕ) → s .keys ≡ ks
+    → finished s .block ≡ encryptWith ks (closedBlock (s .block) (min (s .pending) 16) (subkey1 (encryptWith ks)))
+unfolding finished
+finish-block s ks e = ap (λ (k : List ℕ). encryptWith k (closedBlock (s .block) (min (s .pending) 16) (subkey1 (encryptWith k)))) e
+
+tag-over : (key m : List ℕ) → finished (fed (keyed key) m) .block ≡ cmacOver (encryptWith (expandKey key)) m
+unfolding cmacOver before fed clamped keyed
+tag-over key m =
+    finish-block (fed (keyed key) m) (expandKey key) (fed-keys (keyed key) m)
+    ∙ ap (encryptWith (expandKey key)) (tag-blocks (expandKey key) ((length m - 1) / 16) (replicate 16 0) m refl refl)
+
+pub tag-whole : (key m : List ℕ) → ((i : ℕ) → getD key i 0 < 256) → finished (fed (keyed key) m) .block ≡ cmac key m
+unfolding cmac
+tag-whole key m h = tag-over key m ∙ ap (λ (f : List ℕ → List ℕ). cmacOver f m) (fun-ext (encrypt-expanded key h))
+
+bytes-at : (l : List ℕ) → Bytes l → (i : ℕ) → getD l i 0 < 256
+bytes-at [] h i = lit< tt
+bytes-at (b ∷ l) h zero = h .0
+bytes-at (b ∷ l) h (suc i) = bytes-at l (h .1) i
+
+pub tag-of-parts : TagOfParts
+unfolding begun keyed
+tag-of-parts key len bytes old parts =
+    ap (λ (s : CmacState). finished s .block)
+    (ap (λ (ks : List ℕ). foldl fed (state (replicate 16 0) 0 ks) parts) (fed-keys (keyed key) old) ∙ feed-parts (keyed key) parts (omega arith))
+    ∙ tag-whole key (concatAll parts) (bytes-at key bytes)
