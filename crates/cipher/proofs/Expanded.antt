@@ -1,14 +1,14 @@
 -- An expanded key, read back, is the key schedule: what is encrypted under it is encrypted under the key. Assumes nothing.
 use mathlib.Core.Path.{_≡_, refl, sym, ap, ap₂, _∙_}
-use mathlib.Core.List.{List, [], _∷_, _++_}
+use mathlib.Core.List.{List, [], _++_}
 use Prim.Native.Nat.{ℕ, zero, suc, _+_, _*_, _≤_, _<_}
 use native.Mathlib.Nat.{add-zero}
 use native.Mathlib.Omega.{arith}
 use lib.Dec.{leb, lit<, lit≤}
-use borrow.Author.Tests.{leb-true, leb-false}
 use lib.Bits.{xor-lt}
 use lib.ListN.{length, length-append, getD, List·getD-append}
 use lib.Seq.{getD-append-add}
+use borrow.Author.Tests.{leb-true, leb-false}
 use Rattle.cipher.specs.Aes.{Word, State, numberWord, wordNumber, xorWord, subWord, rotWord, rcon, nextRoundKey, roundKey, stateOf, wordAt, stateNumbers, expandTo, expandKey, keptKey, cipher, afterRounds, addRoundKey, mixColumns, shiftRows, subBytes, blockOf, aes128, encryptWith}
 use Rattle.cipher.proofs.Cases.{by-test}
 use Rattle.cipher.proofs.Words.{number-word, state-ext}

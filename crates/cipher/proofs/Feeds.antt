@@ -1,7 +1,7 @@
 -- Feeding in parts is feeding the whole. Assumes nothing.
 use mathlib.Core.Path.{_≡_, refl, sym, ap, _∙_}
-use mathlib.Core.List.{List, [], _∷_, _++_, foldl, foldl-append}
-use Prim.Native.Nat.{ℕ, _≤_, min}
+use mathlib.Core.List.{List, [], _∷_, foldl, foldl-append}
+use Prim.Native.Nat.{ℕ, _≤_}
 use native.Mathlib.Nat.{min-eq-left, min-le-right}
 use native.Mathlib.Omega.{arith}
 use lib.Dec.{ltb}

@@ -1,17 +1,17 @@
 -- The key schedule: round constants, bytes, and an expanded key read back. Assumes nothing.
-use mathlib.Core.Path.{_≡_, refl, sym, ap, ap₂, _∙_}
+use mathlib.Core.Path.{_≡_, refl, ap, ap₂, _∙_}
 use mathlib.Core.List.{List, [], _∷_, _++_}
 use Prim.Native.Nat.{ℕ, zero, suc, _+_, _*_, _≤_, _<_}
 use native.Mathlib.Nat.{zero-add}
 use native.Mathlib.Numerals.{add-one, add-two, add-three}
 use native.Mathlib.Omega.{arith}
 use lib.Dec.{lit<}
-use lib.Bits.{bitXor, xor-lt}
+use lib.Bits.{bitXor}
 use lib.ListN.{length, length-append, length-take, getD, take, drop, set}
 use lib.Seq.{sets-eq, take-at}
 use Rattle.cipher.specs.Field.{xtime}
 use Rattle.cipher.specs.Sbox.{tableFrom}
-use Rattle.cipher.specs.Aes.{Word, State, numberWord, wordNumber, xorWord, subWord, rotWord, diagonal, rcon, rconByte, nextRoundKey, roundKey, stateNumbers, expandTo}
+use Rattle.cipher.specs.Aes.{State, numberWord, wordNumber, xorWord, subWord, rotWord, diagonal, rcon, rconByte, nextRoundKey, roundKey, stateNumbers, expandTo}
 use Rattle.cipher.proofs.Words.{table-at, number-word, number-xor, state-ext}
 use Rattle.cipher.proofs.Mix.{xtime-lt}
 

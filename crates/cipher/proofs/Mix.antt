@@ -10,7 +10,7 @@ use borrow.Author.Tests.{ltb-true, ltb-false}
 use Rattle.cipher.specs.Field.{xtime}
 use Rattle.cipher.specs.Sbox.{subByte, affine, affineBit}
 use Rattle.cipher.specs.Tables.{mixWord, mixEntry}
-use Rattle.cipher.specs.Aes.{Word, numberWord, wordNumber, xorWord, rotWord, mixColumn, mixByte}
+use Rattle.cipher.specs.Aes.{numberWord, xorWord, rotWord, mixColumn, mixByte}
 use Rattle.cipher.proofs.Xor.{xor-assoc}
 use Rattle.cipher.proofs.Words.{number-word, number-xor, word-ext}
 

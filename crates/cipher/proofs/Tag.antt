@@ -1,18 +1,17 @@
 -- The finished state's block is SP 800-38B's tag of the message. Assumes nothing.
 use mathlib.Core.Path.{_≡_, refl, sym, ap, ap₂, fun-ext, _∙_}
-use mathlib.Core.Bool.{cond}
 use mathlib.Core.List.{List, [], _∷_, _++_, append-assoc, append-nil, zipWith, foldl, foldl-append}
 use Prim.Native.Nat.{ℕ, zero, suc, _+_, _-_, _*_, _/_, _≤_, _<_, min}
-use native.Mathlib.Nat.{add-zero, zero-add, le-of-suc-le-suc, min-eq-left}
+use native.Mathlib.Nat.{add-zero, zero-add, min-eq-left}
 use native.Mathlib.Numerals.{add-one}
 use native.Mathlib.Omega.{arith}
 use lib.Bits.{bitXor, xor-zero-r}
 use lib.Dec.{ltb, lit<}
-use lib.ListN.{length, length-append, length-take, length-drop, length-replicate, getD, set, take, drop, replicate, take-append-drop}
+use lib.ListN.{length, length-append, length-take, length-drop, getD, take, drop, replicate, take-append-drop}
 use lib.Seq.{drop-drop}
 use borrow.Author.Tests.{ltb-true, ltb-false, eq-eqb, ne-eqb}
 use Rattle.cipher.specs.declared.cmac.CmacState.{CmacState}
-use Rattle.cipher.specs.Aes.{aes128, encryptWith, expandKey}
+use Rattle.cipher.specs.Aes.{encryptWith, expandKey}
 use Rattle.cipher.specs.Cmac.{xorBytes, double, subkey1, subkey2, lastBlock, chain, before, cmacOver, cmac}
 use Rattle.cipher.specs.CmacState.{keyed, begun, clamped, xorAt, fedByte, fed, closedBlock, finished}
 use Rattle.cipher.specs.Laws.{TagOfParts, Bytes, concatAll}

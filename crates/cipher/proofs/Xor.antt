@@ -1,10 +1,10 @@
 -- Exclusive or on ℕ: laws that `lib.Bits` lacks. Assumes nothing.
-use mathlib.Core.Path.{_≡_, refl, sym, ap, _∙_}
-use Prim.Native.Nat.{ℕ, zero, suc, _+_, _*_, _/_, _%_, _<_}
-use native.Mathlib.Nat.{mod-lt, zero-lt-suc, div-add-mod'}
+use mathlib.Core.Path.{_≡_, refl, sym, _∙_}
+use Prim.Native.Nat.{ℕ, zero, suc, _/_, _%_, _<_}
+use native.Mathlib.Nat.{mod-lt, zero-lt-suc}
 use native.Mathlib.Omega.{arith}
 use lib.Arith.{bin-ind}
-use lib.Bits.{bitXor, differ, xor-step, xor-self, xor-zero-r, xor-comm}
+use lib.Bits.{bitXor, differ, xor-step, xor-self, xor-zero-r}
 
 -- the same for two binary digits
 differ-lt : (x y : ℕ) → x < 2 → y < 2 → differ x y < 2

@@ -1,36 +1,27 @@
+-- `cipher::aes::aes128_encrypt`: what is encrypted under the expanded key is encrypted under the key.
 use mathlib.Core.Path.{_∙_}
 use mir.Syntax.{w8}
+use borrow.Author.Needs.{needs}
 use Rattle.cipher.proofs.Arrays.{array-fits}
 use Rattle.cipher.proofs.Expanded.{encrypt-expanded}
-use borrow.Author.Needs.{needs}
 use Rattle.cipher.proofs.aes.aes128_encrypt.Statement.{statement}
 use Rattle.cipher.proofs.aes.aes128_encrypt.Tie as tie
-use Rattle.cipher.proofs.aes.aes128_encrypt.Reads as reads
-use Rattle.cipher.proofs.aes.aes128_encrypt.Lts as lts
-use Rattle.cipher.proofs.aes.encrypt_block.Reads as encrypt-block-reads
-use Rattle.cipher.proofs.aes.expand_key.Reads as expand-key-reads
-use Rattle.cipher.proofs.tables.mix_table.Reads as mix-table-reads
-use Rattle.cipher.proofs.tables.sbox_table.Reads as sbox-table-reads
 
--- src/aes.rt:254:15
 mix-table-requires : tie.Need-mix-table-requires
 mix-table-requires c κs = search needs
 
--- src/aes.rt:255:15
 sbox-table-requires : tie.Need-sbox-table-requires
 sbox-table-requires c κs = search needs
 
--- src/aes.rt:256:16
 expand-key-requires : tie.Need-expand-key-requires
 expand-key-requires c κs = search needs
 
--- src/aes.rt:257:5
 encrypt-block-requires : tie.Need-encrypt-block-requires
 encrypt-block-requires c κs = search needs
 
--- src/aes.rt:251:1
 returns : tie.Need-returns
-returns c = let start = c .before .before .before .before .before .before .before .before .before in
+returns c =
+    let start = c .before .before .before .before .before .before .before .before .before in
     c .encrypt-block .ensures
     ∙ (rw (c .before .before .before .before .before .expand-key .ensures) (encrypt-expanded (start .args .t1) (array-fits w8 16 (start .args .t1) _ (start .good .0)) (start .args .t2)))
 

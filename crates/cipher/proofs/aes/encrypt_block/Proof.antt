@@ -1,19 +1,13 @@
+-- `cipher::aes::encrypt_block`. The invariant: `s` is the state after r rounds.
+use mathlib.Core.Path.{_≡_, ap, _∙_}
+use Prim.Native.Nat.{_≤_, _-_}
 use native.Mathlib.Numerals.{add-one}
 use native.Mathlib.Omega.{arith}
 use borrow.Author.Needs.{needs}
-use mathlib.Core.Path.{_≡_, ap, _∙_}
-use Prim.Native.Nat.{_≤_, _-_}
 use Rattle.cipher.specs.Aes.{State, afterRounds, mixColumns, shiftRows, subBytes, blockOf, keptKey, stateOf, addRoundKey, encryptWith, cipher}
 use Rattle.cipher.specs.Columns.{columnsState}
 use Rattle.cipher.proofs.aes.encrypt_block.Statement.{statement}
 use Rattle.cipher.proofs.aes.encrypt_block.Tie as tie
-use Rattle.cipher.proofs.aes.encrypt_block.Reads as reads
-use Rattle.cipher.proofs.aes.encrypt_block.Lts as lts
-use Rattle.cipher.proofs.aes.add_round_key.Reads as add-round-key-reads
-use Rattle.cipher.proofs.aes.load.Reads as load-reads
-use Rattle.cipher.proofs.aes.mix_columns.Reads as mix-columns-reads
-use Rattle.cipher.proofs.aes.shift_rows.Reads as shift-rows-reads
-use Rattle.cipher.proofs.aes.store.Reads as store-reads
 
 abbrev Inv-loop : tie.InvT-loop
 Inv-loop mix sub keys block s₀ r₀ s r = (r ≤ 9) × (columnsState s ≡ afterRounds (keptKey keys) r (stateOf block))
@@ -21,36 +15,28 @@ Inv-loop mix sub keys block s₀ r₀ s r = (r ≤ 9) × (columnsState s ≡ aft
 abbrev μ-loop : tie.MeasureT-loop
 μ-loop mix sub keys block s₀ r₀ s r = 9 - r
 
--- src/aes.rt:178:40
 load-requires : tie.Need-load-requires Inv-loop μ-loop
 load-requires c κs = search needs
 
--- src/aes.rt:178:9
 add-round-key-requires : tie.Need-add-round-key-requires Inv-loop μ-loop
 add-round-key-requires c κs = search needs
 
--- src/aes.rt:180:5
 loop-holds : tie.Need-loop-holds Inv-loop μ-loop
 unfolding afterRounds
 loop-holds c = (search needs, c .add-round-key .ensures ∙ ap (addRoundKey _) (c .before .load .ensures))
 
--- src/aes.rt:181:9
 add-r : tie.Need-add-r Inv-loop μ-loop
 add-r c = search needs
 
--- src/aes.rt:182:36
 mix-columns-requires : tie.Need-mix-columns-requires Inv-loop μ-loop
 mix-columns-requires c κs = search needs
 
--- src/aes.rt:182:9
 add-round-key-requires-2 : tie.Need-add-round-key-requires-2 Inv-loop μ-loop
 add-round-key-requires-2 c κs = search needs
 
--- src/aes.rt:180:5
 loop-less : tie.Need-loop-less Inv-loop μ-loop
 loop-less c = search needs
 
--- src/aes.rt:180:5
 loop-again : tie.Need-loop-again Inv-loop μ-loop
 unfolding afterRounds
 loop-again c = (
@@ -60,22 +46,19 @@ loop-again c = (
       ∙ ap (addRoundKey _) (c .before .mix-columns .ensures ∙ ap (λ (t : State). mixColumns (shiftRows (subBytes t))) (c .before .before .before .loop .inv .1))),
 )
 
--- src/aes.rt:184:35
 shift-rows-requires : tie.Need-shift-rows-requires Inv-loop μ-loop
 shift-rows-requires c κs = search needs
 
--- src/aes.rt:184:11
 add-round-key-requires-3 : tie.Need-add-round-key-requires-3 Inv-loop μ-loop
 add-round-key-requires-3 c κs = search needs
 
--- src/aes.rt:184:5
 store-requires : tie.Need-store-requires Inv-loop μ-loop
 store-requires c κs = search needs
 
--- src/aes.rt:169:1
 returns : tie.Need-returns Inv-loop μ-loop
 unfolding encryptWith cipher
-returns c = let l = c .before .before .before .before .loop in
+returns c =
+    let l = c .before .before .before .before .loop in
     let nine : l .r ≡ 9 = omega arith in
     c .store .ensures
     ∙ ap blockOf

@@ -1,23 +1,18 @@
-use lib.Dec.{lit≤}
-use native.Mathlib.Omega.{arith}
-use native.Mathlib.Numerals.{add-one}
-use lib.Seq.{take-all}
-use Rattle.cipher.proofs.KeySchedule.{put-front, expand-step}
-use borrow.Author.Needs.{needs}
+-- `cipher::aes::expand_key`. The invariant: `k` is round key r, and the front of `keys` has the round keys up to r.
 use mathlib.Core.Path.{_≡_, sym, ap, _∙_}
 use Prim.Native.Nat.{_≤_, _+_, _*_, _-_}
+use native.Mathlib.Omega.{arith}
+use native.Mathlib.Numerals.{add-one}
+use lib.Dec.{lit≤}
+use lib.Seq.{take-all}
 use lib.ListN.{length, take, replicate}
+use borrow.Author.Needs.{needs}
 use Rattle.cipher.specs.Sbox.{sbox}
 use Rattle.cipher.specs.Aes.{roundKey, nextRoundKey, stateNumbers, expandTo, expandKey}
 use Rattle.cipher.specs.Columns.{columnsState}
+use Rattle.cipher.proofs.KeySchedule.{put-front, expand-step}
 use Rattle.cipher.proofs.aes.expand_key.Statement.{statement}
 use Rattle.cipher.proofs.aes.expand_key.Tie as tie
-use Rattle.cipher.proofs.aes.expand_key.Reads as reads
-use Rattle.cipher.proofs.aes.expand_key.Lts as lts
-use Rattle.cipher.proofs.aes.load.Reads as load-reads
-use Rattle.cipher.proofs.aes.next_round_key.Reads as next-round-key-reads
-use Rattle.cipher.proofs.aes.put_round_key.Reads as put-round-key-reads
-use Rattle.cipher.proofs.tables.sbox_table.Reads as sbox-table-reads
 
 abbrev Inv-loop : tie.InvT-loop
 Inv-loop key sub keys₀ k₀ r₀ keys k r = (r ≤ 10) × (sub ≡ sbox) × (length keys ≡ 44) × (columnsState k ≡ roundKey key r) × (take (4 * r + 4) keys ≡ expandTo key r)
@@ -25,52 +20,43 @@ Inv-loop key sub keys₀ k₀ r₀ keys k r = (r ≤ 10) × (sub ≡ sbox) × (l
 abbrev μ-loop : tie.MeasureT-loop
 μ-loop key sub keys₀ k₀ r₀ keys k r = 10 - r
 
--- src/aes.rt:218:15
 sbox-table-requires : tie.Need-sbox-table-requires Inv-loop μ-loop
 sbox-table-requires c κs = search needs
 
--- src/aes.rt:220:9
 load-requires : tie.Need-load-requires Inv-loop μ-loop
 load-requires c κs = search needs
 
--- src/aes.rt:221:19
 slice-aggregate-put-round-key : tie.Need-slice-aggregate-put-round-key Inv-loop μ-loop
 slice-aggregate-put-round-key c = search needs
 
--- src/aes.rt:221:5
 put-round-key-requires : tie.Need-put-round-key-requires Inv-loop μ-loop
 put-round-key-requires c κs = search needs
 
--- src/aes.rt:223:5
 loop-holds : tie.Need-loop-holds Inv-loop μ-loop
 unfolding roundKey expandTo
-loop-holds c = let first = c .before .before .before .load .ensures in
+loop-holds c =
+    let first = c .before .before .before .load .ensures in
     (search needs, search needs, search needs, first, put-front (replicate 44 0) (c .before .put-round-key .last .0) 0 _ (lit≤ tt) (c .before .put-round-key .ensures) ∙ ap stateNumbers first)
 
--- src/aes.rt:224:9
 next-round-key-requires : tie.Need-next-round-key-requires Inv-loop μ-loop
 next-round-key-requires c κs = search needs
 
--- src/aes.rt:225:9
 add-r : tie.Need-add-r Inv-loop μ-loop
 add-r c = search needs
 
--- src/aes.rt:226:23
 slice-aggregate-put-round-key-2 : tie.Need-slice-aggregate-put-round-key-2 Inv-loop μ-loop
 slice-aggregate-put-round-key-2 c = search needs
 
--- src/aes.rt:226:9
 put-round-key-requires-2 : tie.Need-put-round-key-requires-2 Inv-loop μ-loop
 put-round-key-requires-2 c κs = search needs
 
--- src/aes.rt:223:5
 loop-less : tie.Need-loop-less Inv-loop μ-loop
 loop-less c = search needs
 
--- src/aes.rt:223:5
 loop-again : tie.Need-loop-again Inv-loop μ-loop
 unfolding roundKey
-loop-again c = let l = c .before .before .before .before .before .before .loop in
+loop-again c =
+    let l = c .before .before .before .before .before .before .loop in
     let key = c .before .before .before .before .before .before .before .before .before .before .before .before .args .key .now in
     let next : columnsState (c .before .before .before .next-round-key .result) ≡ roundKey key (l .r + 1) =
     rw add-one (c .before .before .before .next-round-key .ensures ∙ ap (nextRoundKey _) (l .inv .3)) in (
@@ -81,10 +67,10 @@ loop-again c = let l = c .before .before .before .before .before .before .loop i
       expand-step key (l .keys) (c .before .put-round-key2 .last .0) (l .r) _ (omega arith) (c .before .put-round-key2 .ensures) (l .inv .4) next,
     )
 
--- src/aes.rt:215:1
 returns : tie.Need-returns Inv-loop μ-loop
 unfolding expandKey
-returns c = let l = c .before .loop in
+returns c =
+    let l = c .before .loop in
     let ten : l .r ≡ 10 = omega arith in
     sym (take-all 44 (l .keys) (omega arith)) ∙ rw ten at (l .inv .4)
 

@@ -1,30 +1,23 @@
+-- `cipher::aes::load`: the four columns are the words of the block.
+use borrow.Author.Needs.{needs}
 use Rattle.cipher.specs.Aes.{stateOf}
 use Rattle.cipher.specs.Columns.{columnsState}
 use Rattle.cipher.proofs.Words.{state-ext}
-use borrow.Author.Needs.{needs}
 use Rattle.cipher.proofs.aes.load.Statement.{statement}
 use Rattle.cipher.proofs.aes.load.Tie as tie
-use Rattle.cipher.proofs.aes.load.Reads as reads
-use Rattle.cipher.proofs.aes.load.Lts as lts
-use Rattle.cipher.proofs.aes.word_at.Reads as word-at-reads
 
--- src/aes.rt:138:13
 word-at-requires : tie.Need-word-at-requires
 word-at-requires c κs = search needs
 
--- src/aes.rt:139:13
 word-at-requires-2 : tie.Need-word-at-requires-2
 word-at-requires-2 c κs = search needs
 
--- src/aes.rt:140:13
 word-at-requires-3 : tie.Need-word-at-requires-3
 word-at-requires-3 c κs = search needs
 
--- src/aes.rt:141:13
 word-at-requires-4 : tie.Need-word-at-requires-4
 word-at-requires-4 c κs = search needs
 
--- src/aes.rt:134:1
 returns : tie.Need-returns
 unfolding columnsState stateOf
 returns c = state-ext (c .before .before .before .word-at .ensures) (c .before .before .word-at2 .ensures) (c .before .word-at3 .ensures) (c .word-at4 .ensures)

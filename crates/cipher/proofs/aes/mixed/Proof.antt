@@ -1,49 +1,37 @@
+-- `cipher::aes::mixed`: the exclusive or of the four entries, turned to their rows, is the mixed column.
 use mathlib.Core.Path.{ap, _∙_}
+use borrow.Author.Needs.{needs}
 use Rattle.cipher.specs.Aes.{Word, numberWord, rotWord, subWord, diagonal}
 use Rattle.cipher.proofs.Words.{bytes32}
 use Rattle.cipher.proofs.Mix.{mix-numbers}
-use borrow.Author.Needs.{needs}
 use Rattle.cipher.proofs.aes.mixed.Statement.{statement}
 use Rattle.cipher.proofs.aes.mixed.Tie as tie
-use Rattle.cipher.proofs.aes.mixed.Reads as reads
-use Rattle.cipher.proofs.aes.mixed.Lts as lts
-use Rattle.cipher.proofs.aes.mix_entry.Reads as mix-entry-reads
-use Rattle.cipher.proofs.aes.rotate_right_16.Reads as rotate-right-16-reads
-use Rattle.cipher.proofs.aes.rotate_right_24.Reads as rotate-right-24-reads
-use Rattle.cipher.proofs.aes.rotate_right_8.Reads as rotate-right-8-reads
 
--- src/aes.rt:60:9
 mix-entry-requires : tie.Need-mix-entry-requires
 mix-entry-requires c κs = search needs
 
--- src/aes.rt:61:28
 mix-entry-requires-2 : tie.Need-mix-entry-requires-2
 mix-entry-requires-2 c κs = search needs
 
--- src/aes.rt:61:9
 rotate-right-8-requires : tie.Need-rotate-right-8-requires
 rotate-right-8-requires c κs = search needs
 
--- src/aes.rt:62:29
 mix-entry-requires-3 : tie.Need-mix-entry-requires-3
 mix-entry-requires-3 c κs = search needs
 
--- src/aes.rt:62:9
 rotate-right-16-requires : tie.Need-rotate-right-16-requires
 rotate-right-16-requires c κs = search needs
 
--- src/aes.rt:63:29
 mix-entry-requires-4 : tie.Need-mix-entry-requires-4
 mix-entry-requires-4 c κs = search needs
 
--- src/aes.rt:63:9
 rotate-right-24-requires : tie.Need-rotate-right-24-requires
 rotate-right-24-requires c κs = search needs
 
--- src/aes.rt:56:1
 returns : tie.Need-returns
 unfolding subWord diagonal numberWord
-returns c = let a = c .before .before .before .before .before .before .before .args in
+returns c =
+    let a = c .before .before .before .before .before .before .before .args in
     let top = bytes32 (a .a) (c .before .before .before .before .before .before .before .fits .a .fits) .top in
     mix-numbers _ _ _ _ _ _ _ _ (rw top at (c .before .before .before .before .before .before .mix-entry .ensures))
     (c .before .before .before .before .rotate-right-8 .ensures ∙ ap (λ (v : Word). rotWord (rotWord (rotWord v))) (c .before .before .before .before .before .mix-entry2 .ensures))

@@ -1,72 +1,58 @@
+-- `cipher::aes::put_round_key`: four stores in a row, of the words of the round key.
 use Prim.Native.Nat.{_*_, _<_, _^_}
 use native.Mathlib.Omega.{arith}
 use lib.ListN.{length-set}
+use borrow.Author.Needs.{needs}
 use Rattle.cipher.specs.Aes.{stateNumbers}
 use Rattle.cipher.specs.Columns.{columnsState}
 use Rattle.cipher.proofs.Words.{word-number}
 use Rattle.cipher.proofs.KeySchedule.{put-four}
-use borrow.Author.Needs.{needs}
 use Rattle.cipher.proofs.aes.put_round_key.Statement.{statement}
 use Rattle.cipher.proofs.aes.put_round_key.Tie as tie
-use Rattle.cipher.proofs.aes.put_round_key.Reads as reads
-use Rattle.cipher.proofs.aes.put_round_key.Lts as lts
 
--- src/aes.rt:207:13
 mul-i : tie.Need-mul-i
 mul-i c = search needs
 
--- src/aes.rt:208:5
 mul-keys : tie.Need-mul-keys
 mul-keys c = search needs
 
--- src/aes.rt:208:5
 slice-write-keys : tie.Need-slice-write-keys
 slice-write-keys c = search needs
 
--- src/aes.rt:209:10
 add-keys : tie.Need-add-keys
 add-keys c = search needs
 
--- src/aes.rt:209:5
 mul-keys-2 : tie.Need-mul-keys-2
 mul-keys-2 c = search needs
 
--- src/aes.rt:209:5
 slice-write-keys-2 : tie.Need-slice-write-keys-2
 slice-write-keys-2 c = simp length-set (omega arith)
 
--- src/aes.rt:210:10
 add-keys-2 : tie.Need-add-keys-2
 add-keys-2 c = search needs
 
--- src/aes.rt:210:5
 mul-keys-3 : tie.Need-mul-keys-3
 mul-keys-3 c = search needs
 
--- src/aes.rt:210:5
 slice-write-keys-3 : tie.Need-slice-write-keys-3
 slice-write-keys-3 c = simp length-set (omega arith)
 
--- src/aes.rt:211:10
 add-keys-3 : tie.Need-add-keys-3
 add-keys-3 c = search needs
 
--- src/aes.rt:211:5
 mul-keys-4 : tie.Need-mul-keys-4
 mul-keys-4 c = search needs
 
--- src/aes.rt:211:5
 slice-write-keys-4 : tie.Need-slice-write-keys-4
 slice-write-keys-4 c = simp length-set (omega arith)
 
--- src/aes.rt:203:1
 same-length : tie.Need-same-length
 same-length c = search needs
 
--- src/aes.rt:203:1
 returns : tie.Need-returns
 unfolding columnsState stateNumbers
-returns c = let k = c .args .k in
+returns c =
+    let k = c .args .k in
     let h0 : k .c0 < 2 ^ 32 = search needs in
     let h1 : k .c1 < 2 ^ 32 = search needs in
     let h2 : k .c2 < 2 ^ 32 = search needs in

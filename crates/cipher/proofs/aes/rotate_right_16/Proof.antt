@@ -1,21 +1,17 @@
+-- `cipher::aes::rotate_right_16` turns a word by two bytes.
 use Prim.Native.Nat.{_/_, _%_}
+use borrow.Author.Needs.{needs}
 use Rattle.cipher.specs.Aes.{rotWord, numberWord}
 use Rattle.cipher.proofs.Words.{bytes32, word-of, turn-2}
-use borrow.Author.Needs.{needs}
 use Rattle.cipher.proofs.aes.rotate_right_16.Statement.{statement}
 use Rattle.cipher.proofs.aes.rotate_right_16.Tie as tie
-use Rattle.cipher.proofs.aes.rotate_right_16.Reads as reads
-use Rattle.cipher.proofs.aes.rotate_right_16.Lts as lts
 
--- src/aes.rt:17:19
 mul-result : tie.Need-mul-result
 mul-result c = search needs
 
--- src/aes.rt:17:5
 add-result : tie.Need-add-result
 add-result c = search needs
 
--- src/aes.rt:14:1
 returns : tie.Need-returns
 unfolding rotWord numberWord
 returns c =

@@ -1,21 +1,17 @@
+-- `cipher::aes::rotate_right_24` turns a word by three bytes, which is RotWord.
 use Prim.Native.Nat.{_/_, _%_}
+use borrow.Author.Needs.{needs}
 use Rattle.cipher.specs.Aes.{rotWord, numberWord}
 use Rattle.cipher.proofs.Words.{bytes32, word-of, turn-3}
-use borrow.Author.Needs.{needs}
 use Rattle.cipher.proofs.aes.rotate_right_24.Statement.{statement}
 use Rattle.cipher.proofs.aes.rotate_right_24.Tie as tie
-use Rattle.cipher.proofs.aes.rotate_right_24.Reads as reads
-use Rattle.cipher.proofs.aes.rotate_right_24.Lts as lts
 
--- src/aes.rt:23:21
 mul-result : tie.Need-mul-result
 mul-result c = search needs
 
--- src/aes.rt:23:5
 add-result : tie.Need-add-result
 add-result c = search needs
 
--- src/aes.rt:20:1
 returns : tie.Need-returns
 unfolding rotWord numberWord
 returns c =

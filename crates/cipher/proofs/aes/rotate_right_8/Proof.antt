@@ -1,21 +1,17 @@
+-- `cipher::aes::rotate_right_8` turns a word by one byte.
 use Prim.Native.Nat.{_/_, _%_}
+use borrow.Author.Needs.{needs}
 use Rattle.cipher.specs.Aes.{rotWord, numberWord}
 use Rattle.cipher.proofs.Words.{bytes32, word-of, turn-1}
-use borrow.Author.Needs.{needs}
 use Rattle.cipher.proofs.aes.rotate_right_8.Statement.{statement}
 use Rattle.cipher.proofs.aes.rotate_right_8.Tie as tie
-use Rattle.cipher.proofs.aes.rotate_right_8.Reads as reads
-use Rattle.cipher.proofs.aes.rotate_right_8.Lts as lts
 
--- src/aes.rt:11:17
 mul-result : tie.Need-mul-result
 mul-result c = search needs
 
--- src/aes.rt:11:5
 add-result : tie.Need-add-result
 add-result c = search needs
 
--- src/aes.rt:8:1
 returns : tie.Need-returns
 unfolding rotWord numberWord
 returns c =

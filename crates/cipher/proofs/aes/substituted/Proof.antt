@@ -1,38 +1,30 @@
+-- `cipher::aes::substituted`: the four substitutes are the bytes of the word.
+use borrow.Author.Needs.{needs}
 use Rattle.cipher.specs.Aes.{numberWord, subWord, diagonal}
 use Rattle.cipher.proofs.Words.{bytes32, word-of}
 use Rattle.cipher.proofs.Mix.{sub-lt}
-use borrow.Author.Needs.{needs}
 use Rattle.cipher.proofs.aes.substituted.Statement.{statement}
 use Rattle.cipher.proofs.aes.substituted.Tie as tie
-use Rattle.cipher.proofs.aes.substituted.Reads as reads
-use Rattle.cipher.proofs.aes.substituted.Lts as lts
-use Rattle.cipher.proofs.aes.substitute.Reads as substitute-reads
-use Rattle.cipher.proofs.aes.word.Reads as word-reads
 
--- src/aes.rt:72:9
 substitute-requires : tie.Need-substitute-requires
 substitute-requires c κs = search needs
 
--- src/aes.rt:73:9
 substitute-requires-2 : tie.Need-substitute-requires-2
 substitute-requires-2 c κs = search needs
 
--- src/aes.rt:74:9
 substitute-requires-3 : tie.Need-substitute-requires-3
 substitute-requires-3 c κs = search needs
 
--- src/aes.rt:75:9
 substitute-requires-4 : tie.Need-substitute-requires-4
 substitute-requires-4 c κs = search needs
 
--- src/aes.rt:76:5
 word-requires : tie.Need-word-requires
 word-requires c κs = rw (c .before .before .before .substitute .ensures, c .before .before .substitute2 .ensures, c .before .substitute3 .ensures, c .substitute4 .ensures) (sub-lt _, sub-lt _, sub-lt _, sub-lt _)
 
--- src/aes.rt:68:1
 returns : tie.Need-returns
 unfolding numberWord subWord diagonal
-returns c = let a = c .before .before .before .before .before .args in
+returns c =
+    let a = c .before .before .before .before .before .args in
     let top = bytes32 (a .a) (c .before .before .before .before .before .fits .a .fits) .top in
     word-of _ _ _ _ _ (sub-lt _) (sub-lt _) (sub-lt _) (sub-lt _)
     (rw (← top, ← c .before .before .before .before .substitute .ensures, ← c .before .before .before .substitute2 .ensures, ← c .before .before .substitute3 .ensures, ← c .before .substitute4 .ensures) (c .word .ensures))

@@ -1,67 +1,52 @@
+-- `cipher::aes::word_at`: a number made of four bytes of the block has them as its word.
 use mathlib.Core.Path.{_∙_}
 use native.Mathlib.Omega.{arith}
+use borrow.Author.Needs.{needs}
 use Rattle.cipher.specs.Aes.{wordAt}
 use Rattle.cipher.proofs.Words.{word-of, word-ext}
-use borrow.Author.Needs.{needs}
 use Rattle.cipher.proofs.aes.word_at.Statement.{statement}
 use Rattle.cipher.proofs.aes.word_at.Tie as tie
-use Rattle.cipher.proofs.aes.word_at.Reads as reads
-use Rattle.cipher.proofs.aes.word_at.Lts as lts
-use Rattle.cipher.proofs.aes.wide.Reads as wide-reads
-use Rattle.cipher.proofs.aes.word.Reads as word-reads
 
--- src/aes.rt:127:14
 element-copy-out-wide : tie.Need-element-copy-out-wide
 element-copy-out-wide c = search needs
 
--- src/aes.rt:127:9
 wide-requires : tie.Need-wide-requires
 wide-requires c κs = search needs
 
--- src/aes.rt:128:20
 add-wide : tie.Need-add-wide
 add-wide c = search needs
 
--- src/aes.rt:128:14
 element-copy-out-wide-2 : tie.Need-element-copy-out-wide-2
 element-copy-out-wide-2 c = search needs
 
--- src/aes.rt:128:9
 wide-requires-2 : tie.Need-wide-requires-2
 wide-requires-2 c κs = search needs
 
--- src/aes.rt:129:20
 add-wide-2 : tie.Need-add-wide-2
 add-wide-2 c = search needs
 
--- src/aes.rt:129:14
 element-copy-out-wide-3 : tie.Need-element-copy-out-wide-3
 element-copy-out-wide-3 c = search needs
 
--- src/aes.rt:129:9
 wide-requires-3 : tie.Need-wide-requires-3
 wide-requires-3 c κs = search needs
 
--- src/aes.rt:130:20
 add-wide-3 : tie.Need-add-wide-3
 add-wide-3 c = search needs
 
--- src/aes.rt:130:14
 element-copy-out-wide-4 : tie.Need-element-copy-out-wide-4
 element-copy-out-wide-4 c = search needs
 
--- src/aes.rt:130:9
 wide-requires-4 : tie.Need-wide-requires-4
 wide-requires-4 c κs = search needs
 
--- src/aes.rt:126:5
 word-requires : tie.Need-word-requires
 word-requires c κs = omega arith
 
--- src/aes.rt:122:1
 returns : tie.Need-returns
 unfolding wordAt
-returns c = let b0 = c .before .before .before .before .before .before .before .wide .ensures in
+returns c =
+    let b0 = c .before .before .before .before .before .before .before .wide .ensures in
     let b1 = c .before .before .before .before .before .wide2 .ensures in
     let b2 = c .before .before .before .wide3 .ensures in
     let b3 = c .before .wide4 .ensures in

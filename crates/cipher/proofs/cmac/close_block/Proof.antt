@@ -1,41 +1,31 @@
+-- `cipher::cmac::close_block`: K1 is added to a full block, padding and K2 to another.
 use mathlib.Core.Path.{ap, _∙_}
 use borrow.Author.Tests.{lt-ltb, le-ltb}
+use borrow.Author.Needs.{needs}
 use Rattle.cipher.specs.Cmac.{xorBytes}
 use Rattle.cipher.specs.CmacState.{closedBlock, xorAt}
-use borrow.Author.Needs.{needs}
 use Rattle.cipher.proofs.cmac.close_block.Statement.{statement}
 use Rattle.cipher.proofs.cmac.close_block.Tie as tie
-use Rattle.cipher.proofs.cmac.close_block.Reads as reads
-use Rattle.cipher.proofs.cmac.close_block.Lts as lts
-use Rattle.cipher.proofs.cmac.doubled.Reads as doubled-reads
-use Rattle.cipher.proofs.cmac.xor_block.Reads as xor-block-reads
 
--- src/cmac.rt:70:27
 array-read-padded : tie.Need-array-read-padded
 array-read-padded c = search needs
 
--- src/cmac.rt:70:9
 array-write-padded : tie.Need-array-write-padded
 array-write-padded c = search needs
 
--- src/cmac.rt:71:27
 doubled-requires : tie.Need-doubled-requires
 doubled-requires c κs = search needs
 
--- src/cmac.rt:71:9
 xor-block-requires : tie.Need-xor-block-requires
 xor-block-requires c κs = search needs
 
--- src/cmac.rt:73:9
 xor-block-requires-2 : tie.Need-xor-block-requires-2
 xor-block-requires-2 c κs = search needs
 
--- src/cmac.rt:65:1
 returns : tie.Need-returns
 unfolding closedBlock xorAt
 returns c = rw (lt-ltb _ _ (c .before .before .if1 .taken)) (c .xor-block .ensures ∙ ap (xorBytes _) (c .before .doubled .ensures))
 
--- src/cmac.rt:65:1
 returns-2 : tie.Need-returns-2
 unfolding closedBlock
 returns-2 c = rw (le-ltb _ _ (c .before .if1 .left)) (c .xor-block2 .ensures)

@@ -1,16 +1,15 @@
-use borrow.Author.Needs.{needs}
+-- `cipher::cmac::shift_left`. The invariant: from place i on, `r` is the shifted string, and `carry` is the bit that place i gives away.
 use mathlib.Core.Path.{_≡_, refl}
 use Prim.Native.Nat.{suc, _≤_, _-_, _/_}
 use native.Mathlib.Omega.{arith}
 use lib.ListN.{length, getD, drop, drop-of-length-le, List·getD-eq-default}
 use mir.Syntax.{w8}
+use borrow.Author.Needs.{needs}
 use Rattle.cipher.specs.Cmac.{shiftLeft}
 use Rattle.cipher.proofs.Arrays.{array-length, array-fits}
 use Rattle.cipher.proofs.Blocks.{shift-down}
 use Rattle.cipher.proofs.cmac.shift_left.Statement.{statement}
 use Rattle.cipher.proofs.cmac.shift_left.Tie as tie
-use Rattle.cipher.proofs.cmac.shift_left.Reads as reads
-use Rattle.cipher.proofs.cmac.shift_left.Lts as lts
 
 abbrev Inv-loop : tie.InvT-loop
 Inv-loop b r₀ carry₀ i₀ r carry i = (i ≤ 16) × (length b ≡ 16) × (length r ≡ 16) × (carry ≤ 1) × (carry ≡ getD b i 0 / 128) × (drop i r ≡ shiftLeft (drop i b))
@@ -18,44 +17,37 @@ Inv-loop b r₀ carry₀ i₀ r carry i = (i ≤ 16) × (length b ≡ 16) × (le
 abbrev μ-loop : tie.MeasureT-loop
 μ-loop b r₀ carry₀ i₀ r carry i = i
 
--- src/cmac.rt:39:5
 loop-holds : tie.Need-loop-holds Inv-loop μ-loop
 unfolding shiftLeft
-loop-holds c = let b = c .args .t1 in
+loop-holds c =
+    let b = c .args .t1 in
     let lb = array-length w8 16 b _ (c .good .0) in
     (search needs, lb, search needs, search needs, rw (List·getD-eq-default b 0 {n = 16} (omega arith)), rw (drop-of-length-le b {i = 16} (omega arith)))
 
--- src/cmac.rt:40:9
 sub-i : tie.Need-sub-i Inv-loop μ-loop
 sub-i c = search needs
 
--- src/cmac.rt:41:16
 array-read-r : tie.Need-array-read-r Inv-loop μ-loop
 array-read-r c = search needs
 
--- src/cmac.rt:41:16
 mul-r : tie.Need-mul-r Inv-loop μ-loop
 mul-r c = search needs
 
--- src/cmac.rt:41:16
 add-r : tie.Need-add-r Inv-loop μ-loop
 add-r c = search needs
 
--- src/cmac.rt:41:9
 array-write-r : tie.Need-array-write-r Inv-loop μ-loop
 array-write-r c = search needs
 
--- src/cmac.rt:42:17
 array-read-carry : tie.Need-array-read-carry Inv-loop μ-loop
 array-read-carry c = search needs
 
--- src/cmac.rt:39:5
 loop-less : tie.Need-loop-less Inv-loop μ-loop
 loop-less c = search needs
 
--- src/cmac.rt:39:5
 loop-again : tie.Need-loop-again Inv-loop μ-loop
-loop-again c = let l = c .before .loop in
+loop-again c =
+    let l = c .before .loop in
     let b = c .before .before .args .t1 in
     let e : l .i ≡ suc (l .i - 1) = omega arith in (
       search needs,
@@ -66,9 +58,9 @@ loop-again c = let l = c .before .loop in
       shift-down b (l .r) (l .i - 1) (l .carry) (omega arith) (omega arith) (rw e at (l .inv .4)) (rw e at (l .inv .5)),
     )
 
--- src/cmac.rt:33:1
 returns : tie.Need-returns Inv-loop μ-loop
-returns c = let e : c .before .loop .i ≡ 0 = omega arith in rw e at (c .before .loop .inv .5)
+returns c =
+    let e : c .before .loop .i ≡ 0 = omega arith in rw e at (c .before .loop .inv .5)
 
 pub shift-left-spec : {M : Type 1} → statement M
 shift-left-spec =

@@ -1,27 +1,20 @@
-use mir.Syntax.{w8}
-use Rattle.cipher.proofs.Arrays.{array-fits}
-use Rattle.cipher.proofs.Expanded.{encrypt-expanded}
-use borrow.Author.Needs.{needs}
+-- `cipher::ctr::ctr_xor_at`. The invariant: the bytes before i are done and those from i on as lent, and while a block of the key stream is in use, `stream` is it.
 use mathlib.Core.Path.{_≡_, refl, sym, ap, fun-ext, _∙_}
 use mathlib.Core.List.{List, _++_}
 use Prim.Native.Nat.{ℕ, _+_, _-_, _*_, _%_, _^_, _≤_, _<_}
 use native.Mathlib.Omega.{arith}
 use lib.ListN.{length, take, drop}
+use mir.Syntax.{w8}
+use borrow.Author.Needs.{needs}
 use Rattle.cipher.specs.Sbox.{sbox}
 use Rattle.cipher.specs.Tables.{mixTable}
 use Rattle.cipher.specs.Aes.{aes128, encryptWith}
 use Rattle.cipher.specs.Ctr.{counterBlock, ctrFrom, ctrAt}
+use Rattle.cipher.proofs.Arrays.{array-fits}
+use Rattle.cipher.proofs.Expanded.{encrypt-expanded}
 use Rattle.cipher.proofs.Stream.{stream-at, ctr-step, ctr-done}
 use Rattle.cipher.proofs.ctr.ctr_xor_at.Statement.{statement}
 use Rattle.cipher.proofs.ctr.ctr_xor_at.Tie as tie
-use Rattle.cipher.proofs.ctr.ctr_xor_at.Reads as reads
-use Rattle.cipher.proofs.ctr.ctr_xor_at.Lts as lts
-use Rattle.cipher.proofs.aes.encrypt_block.Reads as encrypt-block-reads
-use Rattle.cipher.proofs.aes.expand_key.Reads as expand-key-reads
-use Rattle.cipher.proofs.ctr.counter_block.Reads as counter-block-reads
-use Rattle.cipher.proofs.tables.mix_table.Reads as mix-table-reads
-use Rattle.cipher.proofs.tables.sbox_table.Reads as sbox-table-reads
-use Rattle.std.proofs.num.wrapping_add_u64.Reads as wrapping-add-u64-reads
 
 abbrev Inv-loop : tie.InvT-loop
 Inv-loop iv count buf₀ mix sub keys stream₀ used₀ blocks₀ i₀ buf stream used blocks i =
@@ -32,93 +25,74 @@ Inv-loop iv count buf₀ mix sub keys stream₀ used₀ blocks₀ i₀ buf strea
 abbrev μ-loop : tie.MeasureT-loop
 μ-loop iv count buf₀ mix sub keys stream₀ used₀ blocks₀ i₀ buf stream used blocks i = length buf₀ - i
 
--- src/ctr.rt:34:15
 mix-table-requires : tie.Need-mix-table-requires Inv-loop μ-loop
 mix-table-requires c κs = search needs
 
--- src/ctr.rt:35:15
 sbox-table-requires : tie.Need-sbox-table-requires Inv-loop μ-loop
 sbox-table-requires c κs = search needs
 
--- src/ctr.rt:36:16
 expand-key-requires : tie.Need-expand-key-requires Inv-loop μ-loop
 expand-key-requires c κs = search needs
 
--- src/ctr.rt:41:5
 loop-holds : tie.Need-loop-holds Inv-loop μ-loop
 loop-holds c = (search needs, search needs, search needs, search needs, search needs, search needs, search needs, (λ h. absurd (omega arith)), refl)
 
--- src/ctr.rt:43:22
 slice-read-buf : tie.Need-slice-read-buf Inv-loop μ-loop
 slice-read-buf c = search needs
 
--- src/ctr.rt:43:31
 array-read-buf : tie.Need-array-read-buf Inv-loop μ-loop
 array-read-buf c = search needs
 
--- src/ctr.rt:43:13
 slice-write-buf : tie.Need-slice-write-buf Inv-loop μ-loop
 slice-write-buf c = search needs
 
--- src/ctr.rt:44:13
 add-used : tie.Need-add-used Inv-loop μ-loop
 add-used c = search needs
 
--- src/ctr.rt:45:13
 add-i : tie.Need-add-i Inv-loop μ-loop
 add-i c = search needs
 
--- src/ctr.rt:41:5
 loop-less : tie.Need-loop-less Inv-loop μ-loop
 loop-less c = search needs
 
--- src/ctr.rt:41:5
 loop-again : tie.Need-loop-again Inv-loop μ-loop
-loop-again c = let l = c .before .before .before .loop in
+loop-again c =
+    let l = c .before .before .before .loop in
     let a = c .before .before .before .before .before .before .before .before .before .args in
     let ciph = encryptWith (c .before .before .before .before .expand-key .result) in
     let known = stream-at ciph (a .iv) (l .stream) (a .count) (l .i) (l .blocks - 1) (l .used) (omega arith) (omega arith) (l .inv .7 (omega arith)) in
     (search needs, search needs, search needs, search needs, search needs, search needs, search needs, (λ h. l .inv .7 (omega arith)), ctr-step ciph (a .iv) (l .buf) (a .count) (l .i) _ (omega arith) (sym known) ∙ l .inv .8)
 
--- src/ctr.rt:47:43
 wrapping-add-u64-requires : tie.Need-wrapping-add-u64-requires Inv-loop μ-loop
 wrapping-add-u64-requires c κs = search needs
 
--- src/ctr.rt:47:25
 counter-block-requires : tie.Need-counter-block-requires Inv-loop μ-loop
 counter-block-requires c κs = search needs
 
--- src/ctr.rt:48:22
 encrypt-block-requires : tie.Need-encrypt-block-requires Inv-loop μ-loop
 encrypt-block-requires c κs = search needs
 
--- src/ctr.rt:49:22
 slice-read-buf-2 : tie.Need-slice-read-buf-2 Inv-loop μ-loop
 slice-read-buf-2 c = search needs
 
--- src/ctr.rt:49:31
 array-read-buf-2 : tie.Need-array-read-buf-2 Inv-loop μ-loop
 array-read-buf-2 c = search needs
 
--- src/ctr.rt:49:13
 slice-write-buf-2 : tie.Need-slice-write-buf-2 Inv-loop μ-loop
 slice-write-buf-2 c = search needs
 
--- src/ctr.rt:51:13
 add-blocks : tie.Need-add-blocks Inv-loop μ-loop
 add-blocks c = search needs
 
--- src/ctr.rt:52:13
 add-i-2 : tie.Need-add-i-2 Inv-loop μ-loop
 add-i-2 c = search needs
 
--- src/ctr.rt:41:5
 loop-less-2 : tie.Need-loop-less-2 Inv-loop μ-loop
 loop-less-2 c = search needs
 
--- src/ctr.rt:41:5
 loop-again-2 : tie.Need-loop-again-2 Inv-loop μ-loop
-loop-again-2 c = let l = c .before .before .before .before .before .before .before .before .before .before .loop in
+loop-again-2 c =
+    let l = c .before .before .before .before .before .before .before .before .before .before .loop in
     let a = c .before .before .before .before .before .before .before .before .before .before .before .before .before .before .before .before .args in
     let ciph = encryptWith (c .before .before .before .before .before .before .before .before .before .before .before .expand-key .result) in
     let made : c .before .encrypt-block .result ≡ ciph (counterBlock (a .iv) ((a .count + l .blocks) % 2 ^ 64)) =
@@ -127,14 +101,13 @@ loop-again-2 c = let l = c .before .before .before .before .before .before .befo
     let back : l .blocks + 1 - 1 ≡ l .blocks = omega arith in
     (search needs, search needs, search needs, search needs, search needs, search needs, search needs, (λ h. rw back made), ctr-step ciph (a .iv) (l .buf) (a .count) (l .i) _ (omega arith) (sym known) ∙ l .inv .8)
 
--- src/ctr.rt:31:1
 same-length : tie.Need-same-length Inv-loop μ-loop
 same-length c = search needs
 
--- src/ctr.rt:31:1
 returns : tie.Need-returns Inv-loop μ-loop
 unfolding ctrAt
-returns c = let l = c .before .loop in
+returns c =
+    let l = c .before .loop in
     let start = c .before .before .before .before .before .before .before in
     let a = start .args in
     let same : encryptWith (c .before .before .expand-key .result) ≡ aes128 (a .t1) =

@@ -1,44 +1,35 @@
+-- `cipher::kdf::derive_key`: the two parts, each cut, are the salt.
 use mathlib.Core.Path.{ap, _∙_}
 use native.Mathlib.Omega.{arith}
 use lib.ListN.{length-take}
+use borrow.Author.Needs.{needs}
 use Rattle.cipher.specs.Kdf.{kdf, derivedKey, salt}
 use Rattle.cipher.proofs.Salt.{cut-parts}
-use borrow.Author.Needs.{needs}
 use Rattle.cipher.proofs.kdf.derive_key.Statement.{statement}
 use Rattle.cipher.proofs.kdf.derive_key.Tie as tie
-use Rattle.cipher.proofs.kdf.derive_key.Reads as reads
-use Rattle.cipher.proofs.kdf.derive_key.Lts as lts
-use Rattle.cipher.proofs.kdf.kdf_counter_cmac.Reads as kdf-counter-cmac-reads
-use Rattle.cipher.proofs.num.least.Reads as least-reads
 
--- src/kdf.rt:27:9
 least-requires : tie.Need-least-requires
 least-requires c κs = search needs
 
--- src/kdf.rt:28:36
 sub-least : tie.Need-sub-least
 sub-least c = search needs
 
--- src/kdf.rt:28:9
 least-requires-2 : tie.Need-least-requires-2
 least-requires-2 c κs = search needs
 
--- src/kdf.rt:29:34
 slice-aggregate-kdf-counter-cmac : tie.Need-slice-aggregate-kdf-counter-cmac
 slice-aggregate-kdf-counter-cmac c = simp length-take (omega arith)
 
--- src/kdf.rt:29:48
 slice-aggregate-kdf-counter-cmac-2 : tie.Need-slice-aggregate-kdf-counter-cmac-2
 slice-aggregate-kdf-counter-cmac-2 c = simp length-take (omega arith)
 
--- src/kdf.rt:29:5
 kdf-counter-cmac-requires : tie.Need-kdf-counter-cmac-requires
 kdf-counter-cmac-requires c κs = search needs
 
--- src/kdf.rt:24:1
 returns : tie.Need-returns
 unfolding derivedKey salt
-returns c = let start = c .before .before .before .before .before .before .before in
+returns c =
+    let start = c .before .before .before .before .before .before .before in
     c .kdf-counter-cmac .ensures
     ∙ ap (kdf _) (cut-parts 32 _ _ (start .args .prefix .now) (start .args .name .now) (c .before .before .before .before .least .ensures) (c .before .before .before .least2 .ensures))
 

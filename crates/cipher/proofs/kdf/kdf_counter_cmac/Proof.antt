@@ -1,68 +1,52 @@
+-- `cipher::kdf::kdf_counter_cmac`: the four feeds together are the message of SP 800-108.
 use mathlib.Core.Path.{_≡_, ap, _∙_}
 use mathlib.Core.List.{List, [], _∷_, _++_}
 use Prim.Native.Nat.{ℕ}
 use mir.Syntax.{w8}
+use borrow.Author.Needs.{needs}
 use Rattle.cipher.specs.declared.cmac.CmacState.{CmacState}
 use Rattle.cipher.specs.CmacState.{keyed, fed, finished}
 use Rattle.cipher.specs.Kdf.{kdf}
 use Rattle.cipher.proofs.Arrays.{array-fits}
 use Rattle.cipher.proofs.Feeds.{feed-append}
 use Rattle.cipher.proofs.Tag.{tag-whole}
-use borrow.Author.Needs.{needs}
 use Rattle.cipher.proofs.kdf.kdf_counter_cmac.Statement.{statement}
 use Rattle.cipher.proofs.kdf.kdf_counter_cmac.Tie as tie
-use Rattle.cipher.proofs.kdf.kdf_counter_cmac.Reads as reads
-use Rattle.cipher.proofs.kdf.kdf_counter_cmac.Lts as lts
-use Rattle.cipher.proofs.cmac.CmacState.absorb.Reads as absorb-reads
-use Rattle.cipher.proofs.cmac.CmacState.close.Reads as close-reads
-use Rattle.cipher.proofs.cmac.CmacState.keyed.Reads as keyed-reads
-use Rattle.cipher.proofs.tables.mix_table.Reads as mix-table-reads
-use Rattle.cipher.proofs.tables.sbox_table.Reads as sbox-table-reads
 
--- src/kdf.rt:12:15
 mix-table-requires : tie.Need-mix-table-requires
 mix-table-requires c κs = search needs
 
--- src/kdf.rt:13:15
 sbox-table-requires : tie.Need-sbox-table-requires
 sbox-table-requires c κs = search needs
 
--- src/kdf.rt:16:13
 keyed-requires : tie.Need-keyed-requires
 keyed-requires c κs = search needs
 
--- src/kdf.rt:16:54
 slice-aggregate-absorb : tie.Need-slice-aggregate-absorb
 slice-aggregate-absorb c = search needs
 
--- src/kdf.rt:16:9
 absorb-requires : tie.Need-absorb-requires
 absorb-requires c κs = search needs
 
--- src/kdf.rt:17:13
 absorb-requires-2 : tie.Need-absorb-requires-2
 absorb-requires-2 c κs = search needs
 
--- src/kdf.rt:17:9
 absorb-requires-3 : tie.Need-absorb-requires-3
 absorb-requires-3 c κs = search needs
 
--- src/kdf.rt:18:36
 slice-aggregate-absorb-2 : tie.Need-slice-aggregate-absorb-2
 slice-aggregate-absorb-2 c = search needs
 
--- src/kdf.rt:18:15
 absorb-requires-4 : tie.Need-absorb-requires-4
 absorb-requires-4 c κs = search needs
 
--- src/kdf.rt:18:9
 close-requires : tie.Need-close-requires
 close-requires c κs = (c .before .before .before .before .before .before .before .before .before .before .before .before .before .before .before .before .before .before .mix-table .ensures, c .before .before .before .before .before .before .before .before .before .before .before .before .before .before .before .before .before .sbox-table .ensures)
 
--- src/kdf.rt:9:1
 returns : tie.Need-returns
 unfolding kdf
-returns c = let start = c .before .before .before .before .before .before .before .before .before .before .before .before .before .before .before .before .before .before .before .before .before .before .before in
+returns c =
+    let start = c .before .before .before .before .before .before .before .before .before .before .before .before .before .before .before .before .before .before .before .before .before .before .before in
     let key = start .args .key in
     let a = start .args .first .now in
     let b = start .args .second .now in

@@ -1,14 +1,12 @@
+-- `cipher::tables::mix_table`: the table has the products of MixColumns at each of its 256 entries, by one test that is computed.
 use mathlib.Core.Path.{refl}
 use Rattle.cipher.specs.Field.{mul, times, xtime}
-use Rattle.cipher.specs.Sbox.{sbox, subByte, inverse, affine, affineBit, bit, tableFrom}
+use Rattle.cipher.specs.Sbox.{subByte, inverse, affine, affineBit, bit, tableFrom}
 use Rattle.cipher.specs.Aes.{wordNumber}
 use Rattle.cipher.specs.Tables.{mixTable, mixEntry, mixWord}
 use Rattle.cipher.proofs.tables.mix_table.Statement.{statement}
 use Rattle.cipher.proofs.tables.mix_table.Tie as tie
-use Rattle.cipher.proofs.tables.mix_table.Reads as reads
-use Rattle.cipher.proofs.tables.mix_table.Lts as lts
 
--- src/tables.rt:533:1
 returns : tie.Need-returns
 unfolding mixTable mixEntry mixWord wordNumber subByte inverse affine affineBit bit tableFrom mul times xtime
 returns c = refl

@@ -1,21 +1,18 @@
-use native.Mathlib.Omega.{arith}
-use Rattle.cipher.specs.Aes.{encryptWith}
-use Rattle.cipher.proofs.Lengths.{block-length}
-use borrow.Author.Needs.{needs}
+-- `cipher::cmac::CmacState::absorb`. The invariant: what is left of the data, fed to the present state, gives what all of it gives.
 use mathlib.Core.Path.{_≡_, refl, ap, _∙_}
 use mathlib.Core.List.{[], foldl}
 use Prim.Native.Nat.{ℕ, _-_, _≤_}
+use native.Mathlib.Omega.{arith}
 use lib.ListN.{length, length-set, drop, drop-of-length-le}
+use borrow.Author.Needs.{needs}
+use Rattle.cipher.specs.Aes.{encryptWith}
 use Rattle.cipher.specs.Sbox.{sbox}
 use Rattle.cipher.specs.Tables.{mixTable}
 use Rattle.cipher.specs.CmacState.{fed, fedByte, clamped}
+use Rattle.cipher.proofs.Lengths.{block-length}
 use Rattle.cipher.proofs.Fold.{state, fold-short, fold-full}
 use Rattle.cipher.proofs.cmac.CmacState.absorb.Statement.{statement}
 use Rattle.cipher.proofs.cmac.CmacState.absorb.Tie as tie
-use Rattle.cipher.proofs.cmac.CmacState.absorb.Reads as reads
-use Rattle.cipher.proofs.cmac.CmacState.absorb.Lts as lts
-use Rattle.cipher.proofs.aes.encrypt_block.Reads as encrypt-block-reads
-use Rattle.cipher.proofs.num.least.Reads as least-reads
 
 abbrev Inv-loop : tie.InvT-loop
 Inv-loop mix sub «data» keys block₀ pending₀ i₀ block pending i = (mix ≡ mixTable) × (sub ≡ sbox) × (i ≤ length «data») × (length block ≡ 16) × (pending ≤ 16) × (foldl fedByte (state block pending keys) (drop i «data») ≡ foldl fedByte (state block₀ pending₀ keys) «data»)
@@ -23,41 +20,33 @@ Inv-loop mix sub «data» keys block₀ pending₀ i₀ block pending i = (mix �
 abbrev μ-loop : tie.MeasureT-loop
 μ-loop mix sub «data» keys block₀ pending₀ i₀ block pending i = length «data» - i
 
--- src/cmac.rt:109:13
 least-requires : tie.Need-least-requires Inv-loop μ-loop
 least-requires c κs = search needs
 
--- src/cmac.rt:111:9
 loop-holds : tie.Need-loop-holds Inv-loop μ-loop
 loop-holds c = (search needs, search needs, search needs, search needs, omega arith, refl)
 
--- src/cmac.rt:113:34
 array-read-block : tie.Need-array-read-block Inv-loop μ-loop
 array-read-block c = search needs
 
--- src/cmac.rt:113:51
 shared-slice-read-block : tie.Need-shared-slice-read-block Inv-loop μ-loop
 shared-slice-read-block c = search needs
 
--- src/cmac.rt:113:17
 array-write-block : tie.Need-array-write-block Inv-loop μ-loop
 array-write-block c = search needs
 
--- src/cmac.rt:114:17
 add-pending : tie.Need-add-pending Inv-loop μ-loop
 add-pending c = search needs
 
--- src/cmac.rt:115:17
 add-i : tie.Need-add-i Inv-loop μ-loop
 add-i c = search needs
 
--- src/cmac.rt:111:9
 loop-less : tie.Need-loop-less Inv-loop μ-loop
 loop-less c = search needs
 
--- src/cmac.rt:111:9
 loop-again : tie.Need-loop-again Inv-loop μ-loop
-loop-again c = let l = c .before .before .before .loop in
+loop-again c =
+    let l = c .before .before .before .loop in
     let start = c .before .before .before .before .before .before .before .before in (
       search needs,
       search needs,
@@ -67,34 +56,28 @@ loop-again c = let l = c .before .before .before .loop in
       fold-short (l .block) (start .args .self .keys) (start .args .«data» .now) (l .pending) (l .i) (omega arith) (omega arith) ∙ l .inv .5,
     )
 
--- src/cmac.rt:117:25
 encrypt-block-requires : tie.Need-encrypt-block-requires Inv-loop μ-loop
 encrypt-block-requires c κs = search needs
 
--- src/cmac.rt:118:28
 array-read-block-2 : tie.Need-array-read-block-2 Inv-loop μ-loop
 array-read-block-2 c = search needs
 
--- src/cmac.rt:118:39
 shared-slice-read-block-2 : tie.Need-shared-slice-read-block-2 Inv-loop μ-loop
 shared-slice-read-block-2 c = search needs
 
--- src/cmac.rt:118:17
 array-write-block-2 : tie.Need-array-write-block-2 Inv-loop μ-loop
 array-write-block-2 c = search needs
 
--- src/cmac.rt:120:17
 add-i-2 : tie.Need-add-i-2 Inv-loop μ-loop
 add-i-2 c = search needs
 
--- src/cmac.rt:111:9
 loop-less-2 : tie.Need-loop-less-2 Inv-loop μ-loop
 loop-less-2 c = search needs
 
--- src/cmac.rt:111:9
 loop-again-2 : tie.Need-loop-again-2 Inv-loop μ-loop
 unfolding encryptWith
-loop-again-2 c = let l = c .before .before .before .before .before .before .loop in
+loop-again-2 c =
+    let l = c .before .before .before .before .before .before .loop in
     let start = c .before .before .before .before .before .before .before .before .before .before .before in
     let e = c .before .encrypt-block .ensures in (
       search needs,
@@ -105,10 +88,10 @@ loop-again-2 c = let l = c .before .before .before .before .before .before .loop
       fold-full (l .block) _ (start .args .self .keys) (start .args .«data» .now) (l .pending) (l .i) (omega arith) (omega arith) e ∙ l .inv .5,
     )
 
--- src/cmac.rt:103:5
 returns : tie.Need-returns Inv-loop μ-loop
 unfolding fed clamped
-returns c = let l = c .before .loop in
+returns c =
+    let l = c .before .loop in
     let start = c .before .before .before .before .before .before in
     let end : drop (l .i) (start .args .«data» .now) ≡ [] = drop-of-length-le (start .args .«data» .now) {i = l .i} (omega arith) in
     rw end at (l .inv .5) ∙ ap (λ (p : ℕ). foldl fedByte (state (start .args .self .block) p (start .args .self .keys)) (start .args .«data» .now)) (c .before .before .least .ensures)

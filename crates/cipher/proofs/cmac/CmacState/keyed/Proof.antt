@@ -1,21 +1,17 @@
+-- `cipher::cmac::CmacState::keyed` holds the expanded key.
 use mathlib.Core.List.{List}
+use mathlib.Core.Path.{ap}
 use Prim.Native.Nat.{ℕ}
 use lib.ListN.{replicate}
-use Rattle.cipher.specs.declared.cmac.CmacState.{CmacState}
-use mathlib.Core.Path.{ap}
-use Rattle.cipher.specs.CmacState.{keyed}
 use borrow.Author.Needs.{needs}
+use Rattle.cipher.specs.declared.cmac.CmacState.{CmacState}
+use Rattle.cipher.specs.CmacState.{keyed}
 use Rattle.cipher.proofs.cmac.CmacState.keyed.Statement.{statement}
 use Rattle.cipher.proofs.cmac.CmacState.keyed.Tie as tie
-use Rattle.cipher.proofs.cmac.CmacState.keyed.Reads as reads
-use Rattle.cipher.proofs.cmac.CmacState.keyed.Lts as lts
-use Rattle.cipher.proofs.aes.expand_key.Reads as expand-key-reads
 
--- src/cmac.rt:82:13
 expand-key-requires : tie.Need-expand-key-requires
 expand-key-requires c κs = search needs
 
--- src/cmac.rt:79:5
 abbrev with-keys : List ℕ → CmacState
 with-keys ks = record { block = replicate 16 0; pending = 0; keys = ks }
 
