@@ -12,7 +12,7 @@ use lib.Seq.{drop-drop}
 use borrow.Author.Tests.{ltb-true, ltb-false, eq-eqb, ne-eqb}
 use Rattle.cipher.specs.declared.cmac.CmacState.{CmacState}
 use Rattle.cipher.specs.Aes.{encryptWith, expandKey}
-use Rattle.cipher.specs.Cmac.{xorBytes, double, subkey1, subkey2, lastBlock, chain, before, cmacOver, cmac}
+use Rattle.cipher.specs.Cmac.{xorBytes, subkey1, subkey2, lastBlock, chain, before, cmacOver, cmac}
 use Rattle.cipher.specs.CmacState.{keyed, begun, clamped, xorAt, fedByte, fed, closedBlock, finished}
 use Rattle.cipher.specs.Laws.{TagOfParts, Bytes, concatAll}
 use Rattle.cipher.proofs.Xor.{xor-assoc}
@@ -72,17 +72,17 @@ module _ (keys : List ℕ) where
 
   -- the message's last block
   close-last : (c w : List ℕ) → length c ≡ 16 → length w ≤ 16
-      → closedBlock (xorFrom c 0 w) (length w) (subkey1 ciph) ≡ xorBytes c (lastBlock ciph w)
-  unfolding closedBlock lastBlock subkey2
+      → closedBlock (xorFrom c 0 w) (length w) (subkey1 ciph) (subkey2 ciph) ≡ xorBytes c (lastBlock ciph w)
+  unfolding closedBlock lastBlock
   close-last c w hc hw =
       by-test (ltb (length w) 16)
       (λ e.
       let h = ltb-true (length w) 16 e in
       rw (e, ne-eqb (length w) 16 (λ q. omega arith))
-      (ap (λ (l : List ℕ). xorBytes l (double (subkey1 ciph)))
+      (ap (λ (l : List ℕ). xorBytes l (subkey2 ciph))
       (sym (xor-length c 0 w ∙ ap (λ (i : ℕ). xorAt (xorFrom c 0 w) i 0x80) (zero-add (length w)))
       ∙ xor-from c (w ++ 0x80 ∷ []) (15 - length w) (rw length-append (omega arith)) ∙ ap (xorBytes c) (append-assoc w (0x80 ∷ []) (replicate (15 - length w) 0)))
-      ∙ xor-bytes-assoc c (w ++ 0x80 ∷ replicate (15 - length w) 0) (double (subkey1 ciph))))
+      ∙ xor-bytes-assoc c (w ++ 0x80 ∷ replicate (15 - length w) 0) (subkey2 ciph)))
       (λ e.
       let h = ltb-false (length w) 16 e in
       let full : length w ≡ 16 = omega arith in
@@ -96,7 +96,7 @@ module _ (keys : List ℕ) where
 
   -- a message of n whole blocks and a last one, from the chaining block c
   abbrev closing : CmacState → List ℕ
-  closing s = closedBlock (s .block) (min (s .pending) 16) (subkey1 ciph)
+  closing s = closedBlock (s .block) (min (s .pending) 16) (subkey1 ciph) (subkey2 ciph)
 
   tag-blocks : (n : ℕ) (c m : List ℕ) → length c ≡ 16 → n ≡ (length m - 1) / 16
       → closing (foldl fedByte (state c 0 keys) m) ≡ xorBytes (chain ciph n c m) (lastBlock ciph (drop (16 * n) m))
@@ -104,7 +104,7 @@ module _ (keys : List ℕ) where
   tag-blocks zero c m hc hn =
       let short : length m ≤ 16 = omega arith in
       ap closing (fold-within m c 0 (omega arith))
-      ∙ ap (λ (p : ℕ). closedBlock (xorFrom c 0 m) p (subkey1 ciph)) (ap (λ (p : ℕ). min p 16) (zero-add (length m)) ∙ min-eq-left short)
+      ∙ ap (λ (p : ℕ). closedBlock (xorFrom c 0 m) p (subkey1 ciph) (subkey2 ciph)) (ap (λ (p : ℕ). min p 16) (zero-add (length m)) ∙ min-eq-left short)
       ∙ close-last c m hc short
   tag-blocks (suc n) c m hc hn =
       let front = take 16 m in
@@ -126,9 +126,9 @@ module _ (keys : List ℕ) where
       ∙ ap (λ (l : List ℕ). xorBytes (chain ciph n (ciph x) rest) (lastBlock ciph l)) (drop-drop (16 * n) 16 m ∙ ap (λ (k : ℕ). drop k m) next)
 
 finish-block : (s : CmacState) (ks : List ℕ) → s .keys ≡ ks
-    → finished s .block ≡ encryptWith ks (closedBlock (s .block) (min (s .pending) 16) (subkey1 (encryptWith ks)))
+    → finished s .block ≡ encryptWith ks (closedBlock (s .block) (min (s .pending) 16) (subkey1 (encryptWith ks)) (subkey2 (encryptWith ks)))
 unfolding finished
-finish-block s ks e = ap (λ (k : List ℕ). encryptWith k (closedBlock (s .block) (min (s .pending) 16) (subkey1 (encryptWith k)))) e
+finish-block s ks e = ap (λ (k : List ℕ). encryptWith k (closedBlock (s .block) (min (s .pending) 16) (subkey1 (encryptWith k)) (subkey2 (encryptWith k)))) e
 
 tag-over : (key m : List ℕ) → finished (fed (keyed key) m) .block ≡ cmacOver (encryptWith (expandKey key)) m
 unfolding cmacOver before fed clamped keyed

@@ -8,7 +8,7 @@ use lib.Dec.{ltb}
 use lib.ListN.{getD, set, replicate}
 use Rattle.cipher.specs.declared.cmac.CmacState.{CmacState}
 use Rattle.cipher.specs.Aes.{expandKey, encryptWith}
-use Rattle.cipher.specs.Cmac.{xorBytes, double, subkey1}
+use Rattle.cipher.specs.Cmac.{xorBytes, subkey1, subkey2}
 
 -- the state for a 16-byte key
 unfoldable pub keyed : List ℕ → CmacState
@@ -37,13 +37,11 @@ unfoldable pub fed : CmacState → List ℕ → CmacState
 fed s m = foldl fedByte (clamped s) m
 
 -- the last block, made whole and added: K1 for a full one, the bit 1 and K2 for another
-unfoldable pub closedBlock : List ℕ → ℕ → List ℕ → List ℕ
-closedBlock block pending k1 = cond (ltb pending 16) (xorBytes (xorAt block pending 0x80) (double k1)) (xorBytes block k1)
+unfoldable pub closedBlock : List ℕ → ℕ → List ℕ → List ℕ → List ℕ
+closedBlock block pending k1 k2 = cond (ltb pending 16) (xorBytes (xorAt block pending 0x80) k2) (xorBytes block k1)
 
 -- the state after the message's end: its block is the tag
 unfoldable pub finished : CmacState → CmacState
-finished s = record {
-  block = encryptWith (s .keys) (closedBlock (s .block) (min (s .pending) 16) (subkey1 (encryptWith (s .keys))));
-  pending = 0;
-  keys = s .keys;
-}
+finished s =
+    let ciph = encryptWith (s .keys) in
+    record { block = ciph (closedBlock (s .block) (min (s .pending) 16) (subkey1 ciph) (subkey2 ciph)); pending = 0; keys = s .keys }

@@ -55,13 +55,13 @@ fn doubled(b: [u8; 16]) -> [u8; 16]
 }
 
 // The last block, padded unless it is full, with its subkey added.
-fn close_block(block: [u8; 16], pending: usize, subkey1: [u8; 16]) -> [u8; 16]
-    ensures { λ r. ⌜ r ≡ closedBlock block pending subkey1 ⌝ }
+fn close_block(block: [u8; 16], pending: usize, subkey1: [u8; 16], subkey2: [u8; 16]) -> [u8; 16]
+    ensures { λ r. ⌜ r ≡ closedBlock block pending subkey1 subkey2 ⌝ }
 {
     if pending < 16 {
         let mut padded = block;
         padded[pending] = padded[pending] ^ 0x80;
-        xor_block(padded, doubled(subkey1))
+        xor_block(padded, subkey2)
     } else {
         xor_block(block, subkey1)
     }
@@ -128,8 +128,9 @@ impl CmacState {
         let keys = self.keys;
         let zero = [0u8; 16];
         let subkey1 = doubled(aes::encrypt_block(mix, sub, &keys, &zero));
+        let subkey2 = doubled(subkey1);
         let block = self.block;
-        let last = close_block(block, num::least(self.pending, 16), subkey1);
+        let last = close_block(block, num::least(self.pending, 16), subkey1, subkey2);
         CmacState {
             block: aes::encrypt_block(mix, sub, &keys, &last),
             pending: 0,

@@ -6,6 +6,8 @@ use Rattle.cipher.proofs.Words.{bytes32, word-of, turn-2}
 use Rattle.cipher.proofs.aes.rotate_right_16.Statement.{statement}
 use Rattle.cipher.proofs.aes.rotate_right_16.Tie as tie
 
+-- `cipher::aes::rotate_right_16` turns a word by two bytes.
+
 mul-result : tie.Need-mul-result
 mul-result c = search needs
 

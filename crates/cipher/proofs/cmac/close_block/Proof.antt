@@ -1,8 +1,6 @@
 -- `cipher::cmac::close_block`: K1 is added to a full block, padding and K2 to another.
-use mathlib.Core.Path.{ap, _∙_}
 use borrow.Author.Tests.{lt-ltb, le-ltb}
 use borrow.Author.Needs.{needs}
-use Rattle.cipher.specs.Cmac.{xorBytes}
 use Rattle.cipher.specs.CmacState.{closedBlock, xorAt}
 use Rattle.cipher.proofs.cmac.close_block.Statement.{statement}
 use Rattle.cipher.proofs.cmac.close_block.Tie as tie
@@ -13,9 +11,6 @@ array-read-padded c = search needs
 array-write-padded : tie.Need-array-write-padded
 array-write-padded c = search needs
 
-doubled-requires : tie.Need-doubled-requires
-doubled-requires c κs = search needs
-
 xor-block-requires : tie.Need-xor-block-requires
 xor-block-requires c κs = search needs
 
@@ -24,7 +19,7 @@ xor-block-requires-2 c κs = search needs
 
 returns : tie.Need-returns
 unfolding closedBlock xorAt
-returns c = rw (lt-ltb _ _ (c .before .before .if1 .taken)) (c .xor-block .ensures ∙ ap (xorBytes _) (c .before .doubled .ensures))
+returns c = rw (lt-ltb _ _ (c .before .if1 .taken)) (c .xor-block .ensures)
 
 returns-2 : tie.Need-returns-2
 unfolding closedBlock
@@ -36,7 +31,6 @@ close-block-spec =
     (tie.spec
     array-read-padded
     array-write-padded
-    doubled-requires
     xor-block-requires
     xor-block-requires-2
     returns

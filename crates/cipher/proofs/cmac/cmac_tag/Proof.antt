@@ -9,6 +9,8 @@ use Rattle.cipher.proofs.Tag.{tag-whole}
 use Rattle.cipher.proofs.cmac.cmac_tag.Statement.{statement}
 use Rattle.cipher.proofs.cmac.cmac_tag.Tie as tie
 
+-- `cipher::cmac::cmac_tag`: the finished block is the tag of the whole message.
+
 mix-table-requires : tie.Need-mix-table-requires
 mix-table-requires c κs = search needs
 

@@ -16,6 +16,8 @@ use Rattle.cipher.proofs.Stream.{stream-at, ctr-step, ctr-done}
 use Rattle.cipher.proofs.ctr.ctr_xor_at.Statement.{statement}
 use Rattle.cipher.proofs.ctr.ctr_xor_at.Tie as tie
 
+-- `cipher::ctr::ctr_xor_at`. The invariant: the bytes before i are done and those from i on as lent, and while a block of the key stream is in use, `stream` is it.
+
 abbrev Inv-loop : tie.InvT-loop
 Inv-loop iv count buf₀ mix sub keys stream₀ used₀ blocks₀ i₀ buf stream used blocks i =
     (mix ≡ mixTable) × (sub ≡ sbox) × (i ≤ length buf₀) × (length buf ≡ length buf₀) × (i + 16 ≡ 16 * blocks + used) × (1 ≤ used) × (used ≤ 16)

@@ -13,6 +13,8 @@ use Rattle.cipher.proofs.Tag.{tag-whole}
 use Rattle.cipher.proofs.kdf.kdf_counter_cmac.Statement.{statement}
 use Rattle.cipher.proofs.kdf.kdf_counter_cmac.Tie as tie
 
+-- `cipher::kdf::kdf_counter_cmac`: the four feeds together are the message of SP 800-108.
+
 mix-table-requires : tie.Need-mix-table-requires
 mix-table-requires c κs = search needs
 

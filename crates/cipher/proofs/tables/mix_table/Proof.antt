@@ -7,6 +7,8 @@ use Rattle.cipher.specs.Tables.{mixTable, mixEntry, mixWord}
 use Rattle.cipher.proofs.tables.mix_table.Statement.{statement}
 use Rattle.cipher.proofs.tables.mix_table.Tie as tie
 
+-- `cipher::tables::mix_table`: the table has the products of MixColumns at each of its 256 entries, by one test that is computed.
+
 returns : tie.Need-returns
 unfolding mixTable mixEntry mixWord wordNumber subByte inverse affine affineBit bit tableFrom mul times xtime
 returns c = refl

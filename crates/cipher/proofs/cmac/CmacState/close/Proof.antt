@@ -1,11 +1,11 @@
 -- `cipher::cmac::CmacState::close`: the closed block, encrypted.
-use mathlib.Core.Path.{ap, ap₂, _∙_}
+use mathlib.Core.Path.{_≡_, ap, ap₂, _∙_}
 use mathlib.Core.List.{List}
-use Prim.Native.Nat.{ℕ}
+use Prim.Native.Nat.{ℕ, min}
 use borrow.Author.Needs.{needs}
-use Rattle.cipher.specs.Aes.{encryptWith}
-use Rattle.cipher.specs.Cmac.{double, subkey1}
 use Rattle.cipher.specs.CmacState.{closedBlock, finished}
+use Rattle.cipher.specs.Aes.{encryptWith}
+use Rattle.cipher.specs.Cmac.{double, subkey1, subkey2}
 use Rattle.cipher.proofs.Fold.{state}
 use Rattle.cipher.proofs.cmac.CmacState.close.Statement.{statement}
 use Rattle.cipher.proofs.cmac.CmacState.close.Tie as tie
@@ -15,6 +15,9 @@ encrypt-block-requires c κs = search needs
 
 doubled-requires : tie.Need-doubled-requires
 doubled-requires c κs = search needs
+
+doubled-requires-2 : tie.Need-doubled-requires-2
+doubled-requires-2 c κs = search needs
 
 least-requires : tie.Need-least-requires
 least-requires c κs = search needs
@@ -26,13 +29,13 @@ encrypt-block-requires-2 : tie.Need-encrypt-block-requires-2
 encrypt-block-requires-2 c κs = search needs
 
 returns : tie.Need-returns
-unfolding finished subkey1
-returns c =
-    let s = c .before .before .before .before .before .before .before .before .before .before .before .args .self in
-    let k1 = c .before .before .before .before .before .before .doubled .ensures ∙ ap double (c .before .before .before .before .before .before .before .encrypt-block .ensures) in
-    ap (λ (l : List ℕ). state l 0 (s .keys))
-    (c .encrypt-block2 .ensures
-    ∙ ap (encryptWith (s .keys)) (c .before .before .before .close-block .ensures ∙ ap₂ (closedBlock (s .block)) (c .before .before .before .before .least .ensures) k1))
+unfolding finished subkey1 subkey2
+returns c = let s = c .before .before .before .before .before .before .before .before .before .before .before .before .args .self in
+    let ciph = encryptWith (s .keys) in
+    let k1 : c .before .before .before .before .before .before .before .doubled .result ≡ subkey1 ciph = c .before .before .before .before .before .before .before .doubled .ensures ∙ ap double (c .before .before .before .before .before .before .before .before .encrypt-block .ensures) in
+    let k2 : c .before .before .before .before .before .before .doubled2 .result ≡ subkey2 ciph = c .before .before .before .before .before .before .doubled2 .ensures ∙ ap double k1 in
+    let last = c .before .before .before .close-block .ensures ∙ ap (λ (p : ℕ). closedBlock (s .block) p (c .before .before .before .before .before .before .before .doubled .result) (c .before .before .before .before .before .before .doubled2 .result)) (c .before .before .before .before .least .ensures) ∙ ap₂ (closedBlock (s .block) (min (s .pending) 16)) k1 k2 in
+    ap (λ (l : List ℕ). state l 0 (s .keys)) (c .encrypt-block2 .ensures ∙ ap ciph last)
 
 pub close-spec : {M : Type 1} → statement M
 close-spec =
@@ -40,6 +43,7 @@ close-spec =
     (tie.spec
     encrypt-block-requires
     doubled-requires
+    doubled-requires-2
     least-requires
     close-block-requires
     encrypt-block-requires-2
