@@ -4,7 +4,12 @@ use crate::num;
 use crate::tables;
 ghost use mathlib.Core.Path.{_≡_};
 ghost use mathlib.Core.List.{_++_};
-ghost use Rattle.cipher.specs.Kdf.{kdf, derivedKey};
+ghost use Rattle.cipher.specs.Kdf.{encPrefix, authPrefix, kdf, derivedKey};
+
+// The prefixes of the two keys that each name has.
+const ENC: [u8; 3] = *b"ENC";
+
+const AUTH: [u8; 4] = *b"AUTH";
 
 // The derived key for a label in two parts, both taken whole.
 pub fn kdf_counter_cmac(key: [u8; 16], first: &[u8], second: &[u8]) -> [u8; 16]
@@ -27,4 +32,18 @@ pub fn derive_key(device_key: [u8; 16], prefix: &[u8], name: &[u8]) -> [u8; 16]
     let p = num::least(prefix.len(), 32);
     let n = num::least(name.len(), 32 - p);
     kdf_counter_cmac(device_key, &prefix[..p], &name[..n])
+}
+
+// The key that a name's data is encrypted under.
+pub fn derive_encryption_key(device_key: [u8; 16], name: &[u8]) -> [u8; 16]
+    ensures { λ r. ⌜ r ≡ derivedKey «device_key» encPrefix (now (name .entry)) ⌝ }
+{
+    derive_key(device_key, &ENC, name)
+}
+
+// The key that a name's record is authenticated under.
+pub fn derive_authentication_key(device_key: [u8; 16], name: &[u8]) -> [u8; 16]
+    ensures { λ r. ⌜ r ≡ derivedKey «device_key» authPrefix (now (name .entry)) ⌝ }
+{
+    derive_key(device_key, &AUTH, name)
 }
