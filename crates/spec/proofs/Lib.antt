@@ -4,4 +4,8 @@ pub mod Slots
 pub mod Area
 pub mod First
 pub mod Record
+pub mod Status
+pub mod Demand1
+pub mod Get
+pub mod Set
 pub mod Edges

@@ -28,7 +28,7 @@ abbrev pub areasIntact : List ℕ → List ℕ → Bool
 areasIntact kv rbp = intact kvFormat kv && intact rbpFormat rbp
 
 -- 1 for a length, then 2 for damage, then the rest
-abbrev pub guarded : Bool → Bool → ℕ → ℕ
+unfoldable pub guarded : Bool → Bool → ℕ → ℕ
 guarded lengths undamaged rest = refuseIf (not lengths) errLength (refuseIf (not undamaged) errCorrupt rest)
 
 -- what a name has on the card and in the chip

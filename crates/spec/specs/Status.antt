@@ -55,17 +55,17 @@ statusTable =
     ok ∷ errLength ∷ errCorrupt ∷ errInvalidName ∷ errInvalidFlags ∷ errDataSize ∷ errNotFound ∷ errAlreadyExists ∷ errInvalidRecord
     ∷ errFlagsMismatch ∷ errNoSpace ∷ errAuthentication ∷ errRollback ∷ errInvalidKeyFile ∷ errOffset ∷ []
 
-abbrev pub isListed : ℕ → Bool
+unfoldable pub isListed : ℕ → Bool
 isListed s = any (eqb s) statusTable
 
 abbrev pub isOk : ℕ → Bool
 isOk s = eqb s ok
 
 -- "Each number is given when its test is the first to fail": where the test fails, this number; else what follows decides.
-abbrev pub refuseIf : Bool → ℕ → ℕ → ℕ
+unfoldable pub refuseIf : Bool → ℕ → ℕ → ℕ
 refuseIf true number rest = number
 refuseIf false number rest = rest
 
 -- "Every refusal returns 0 .. and changes nothing lent": the first where the status is 0, else the second
-abbrev pub onOk : {A : Type 0} → ℕ → A → A → A
+unfoldable pub onOk : {A : Type 0} → ℕ → A → A → A
 onOk status done refused = cond (isOk status) done refused
