@@ -8,4 +8,8 @@ pub mod Status
 pub mod Demand1
 pub mod Get
 pub mod Set
+pub mod Interleaving
+pub mod Model
+pub mod Request
+pub mod Isolation
 pub mod Edges

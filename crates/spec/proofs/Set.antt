@@ -87,6 +87,17 @@ got-eq : {g : Got} {status count : ℕ} {output : List ℕ} → g .status ≡ st
     → g ≡ record { status = status; count = count; output = output }
 got-eq p q r = λ i. record { status = p i; count = q i; output = r i }
 
+-- what a set writes may be written
+
+module _ (key name : List ℕ) (flags : ℕ) (iv value : List ℕ) (v : validName name ≡ true) (f : validFlags flags ≡ true) (i : length iv ≡ 8) (z : length value ≤ maxDataSize) where
+  pub sealed-kv-good : Good kvFormat KvFits kv-laws name (sealRecord revision1 key name flags iv value)
+  sealed-kv-good =
+      let e = sealed-length revision1 key name flags iv value (lit< tt) f i z in
+      record { name = v; payload = record { size = omega arith } }
+
+  pub sealed-rbp-good : Good rbpFormat RbpFits rbp-laws name (tagOf (sealRecord revision1 key name flags iv value))
+  sealed-rbp-good = record { name = v; payload = record { size = sealed-tag-length revision1 key name flags iv value (lit< tt) f i z } }
+
 module _ (kv rbp key name : List ℕ) (flags : ℕ) (iv value : List ℕ) (h : setStatus kv rbp key name flags iv value ≡ ok) where
   abbrev sealed : List ℕ
   sealed = sealRecord revision1 key name flags iv value
@@ -117,16 +128,10 @@ module _ (kv rbp key name : List ℕ) (flags : ℕ) (iv value : List ℕ) (h : s
   small = lit< tt
 
   kv-good : Good kvFormat KvFits kv-laws name sealed
-  kv-good =
-      let a = accepted in
-      let e = sealed-length revision1 key name flags iv value small (a .choice .flags-valid) (a .iv-sized) (a .choice .value-sized) in
-      let v = a .choice .value-sized in
-      record { name = a .choice .name-valid; payload = record { size = omega arith } }
+  kv-good = let a = accepted in sealed-kv-good key name flags iv value (a .choice .name-valid) (a .choice .flags-valid) (a .iv-sized) (a .choice .value-sized)
 
   rbp-good : Good rbpFormat RbpFits rbp-laws name (tagOf sealed)
-  rbp-good =
-      let a = accepted in
-      record { name = a .choice .name-valid; payload = record { size = sealed-tag-length revision1 key name flags iv value small (a .choice .flags-valid) (a .iv-sized) (a .choice .value-sized) } }
+  rbp-good = let a = accepted in sealed-rbp-good key name flags iv value (a .choice .name-valid) (a .choice .flags-valid) (a .iv-sized) (a .choice .value-sized)
 
   -- the areas after it
   kv-after : set kv rbp key name flags iv value .kv ≡ insert kvFormat kv name sealed
