@@ -12,4 +12,5 @@ pub mod Interleaving
 pub mod Model
 pub mod Request
 pub mod Isolation
+pub mod Instance
 pub mod Edges
