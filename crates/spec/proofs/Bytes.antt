@@ -1,15 +1,15 @@
 -- Laws of byte strings: the equality test, zero fill, little-endian numbers, lists of names.
 use mathlib.Core.Path.{_≡_, refl, ap, _∙_}
 use mathlib.Core.Logic.{_≢_}
-use mathlib.Core.Bool.{Bool, true, false}
+use mathlib.Core.Bool.{true, false}
 use mathlib.Core.List.{List, [], _∷_, _++_, append-assoc, List·Memᴰ, List·Memᴰ·head, List·Memᴰ·tail, Memᴰ·cast}
-use Prim.Native.Nat.{ℕ, zero, suc, _+_, _-_, _*_, _/_, _%_, _^_, _≤_, _<_}
+use Prim.Native.Nat.{ℕ, zero, suc, _-_, _*_, _/_, _^_, _≤_, _<_}
 use native.Mathlib.Omega.{arith}
 use borrow.Author.Tests.{eqb-true, eq-eqb}
 use lib.Dec.{eqb}
-use lib.ListN.{length, take, drop, replicate, length-append, length-replicate}
+use lib.ListN.{length, take, drop, length-append, length-replicate}
 use lib.Seq.{take-append-seam, drop-append-seam}
-use Rattle.spec.specs.Bytes.{every, bytesEq, zeros, allZero, zeroFill, leBytes, leValue}
+use Rattle.spec.specs.Bytes.{bytesEq, zeros, allZero, zeroFill, leBytes, leValue}
 use Rattle.spec.specs.Name.{Name}
 use Rattle.spec.specs.Area.{member, dedup}
 use Rattle.spec.proofs.Split.{split, clash, both}

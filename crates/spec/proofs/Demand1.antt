@@ -1,18 +1,13 @@
 -- Demand 1.
 use mathlib.Core.Path.{_≡_, refl}
-use mathlib.Core.Bool.{Bool, true, false, not, _&&_, _||_}
-use mathlib.Core.List.{List, []}
+use mathlib.Core.Bool.{true}
+use mathlib.Core.List.{List}
 use mathlib.Core.Option.{Option, none, some}
 use Prim.Native.Nat.{ℕ}
-use lib.Dec.{eqb, leb, ltb}
-use lib.ListN.{length, getD, drop}
-use Rattle.spec.specs.Bytes.{isSome}
 use Rattle.spec.specs.Status.{isListed}
-use Rattle.spec.specs.Name.{Name, validName, validPrefix}
-use Rattle.spec.specs.Record.{writeOnce, requireIntegrity, requireReplayProtection, validFlags, recordValid, macOk, flagsOf, dataSizeOf}
-use Rattle.spec.specs.Binding.{Binding, Effect, tagMatches, setHeld, lacksSpace, setDecision, setEffect, getHeld, getDecision, removeHeld, removeDecision, removeEffect}
-use Rattle.spec.specs.Calls.{Written, written, bindingOf, setStatus, set, getStatus, get, getInfo, removeStatus, remove, reset, iteratorStatus, iteratorNext}
-use Rattle.spec.specs.Demands.{WrittenWell, GotWell, InfoWell, IteratedWell, Demand1}
+use Rattle.spec.specs.Binding.{Effect, setHeld, setDecision, setEffect, getHeld, getDecision, removeHeld, removeDecision, removeEffect}
+use Rattle.spec.specs.Calls.{written, bindingOf, setStatus, set, getStatus, get, getInfo, removeStatus, remove, reset, iteratorStatus, iteratorNext}
+use Rattle.spec.specs.Demands.{WrittenWell, Demand1}
 use Rattle.spec.proofs.Status.{refuse-listed, guard-listed, on-refused}
 
 -- ---- every status is listed

@@ -1,5 +1,5 @@
 -- 01's edges marked P, by computation.
-use mathlib.Core.Path.{_≡_, refl}
+use mathlib.Core.Path.{refl}
 use Rattle.cipher.specs.Kdf.{salt}
 use Rattle.spec.specs.Status.{refuseIf, onOk}
 use Rattle.spec.specs.Name.{validNameByte, validName, keyName}

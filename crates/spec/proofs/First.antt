@@ -1,19 +1,18 @@
 -- The definitions on slots, as a loop over the flat buffer has them: an index, and the bytes from there.
-use mathlib.Core.Path.{_≡_, refl, sym, ap, _∙_}
+use mathlib.Core.Path.{_≡_, refl, sym, _∙_}
 use mathlib.Core.Bool.{Bool, true, false, cond}
-use mathlib.Core.List.{List, [], _∷_, _++_, append-assoc}
-use mathlib.Core.Option.{Option, none, some}
+use mathlib.Core.List.{List, [], _∷_, _++_}
 use Prim.Native.Nat.{ℕ, zero, suc, _+_, _-_, _*_, _<_}
-use native.Mathlib.Nat.{suc-mul, zero-mul, zero-add, not-suc-le-zero, le-of-suc-le-suc, zero-lt-suc}
+use native.Mathlib.Nat.{not-suc-le-zero, le-of-suc-le-suc}
 use native.Mathlib.Omega.{arith}
 use borrow.Author.Tests.{ltb-true}
 use lib.Dec.{ltb, leb·suc-suc, leb·zero}
-use lib.ListN.{length, take, drop, getD, set, getElem?, length-drop, take-append-drop}
-use lib.Seq.{take-add, drop-drop, drop-cons}
+use lib.ListN.{length, take, drop, getD, set, getElem?}
+use lib.Seq.{drop-cons}
 use Rattle.spec.specs.Bytes.{any}
 use Rattle.spec.specs.Area.{Format, chunks, join, replaceFirst, first, find, slotCount, slots}
 use Rattle.spec.proofs.Split.{split, clash}
-use Rattle.spec.proofs.Area.{length-chunks}
+use Rattle.spec.proofs.Chunks.{length-chunks, chunk-at, join-set}
 
 module _ {S : Type 0} where
   pub replaceFirst-set : (t : S → Bool) (q : S) (ss : List S) → replaceFirst t q ss ≡ set ss (first t ss) q
@@ -33,36 +32,15 @@ module _ {S : Type 0} where
   first-passes t [] d h = clash false h refl
   first-passes t (s ∷ ss) d h = split (t s) (λ e. rw e e) (λ e. rw e (first-passes t ss d (rw e at h)))
 
+  pub any-at : (t : S → Bool) (ss : List S) (d : S) (i : ℕ) → i < length ss → t (getD ss i d) ≡ true → any t ss ≡ true
+  any-at t [] d i h e = absurd (not-suc-le-zero h)
+  any-at t (s ∷ ss) d zero h e = rw e
+  any-at t (s ∷ ss) d (suc i) h e = split (t s) (λ k. rw k) (λ k. rw k (any-at t ss d i (le-of-suc-le-suc h) e))
+
   pub first-lowest : (t : S → Bool) (ss : List S) (d : S) (j : ℕ) → j < first t ss → t (getD ss j d) ≡ false
   first-lowest t [] d j h = absurd (not-suc-le-zero h)
   first-lowest t (s ∷ ss) d zero h = split (t s) (λ e. absurd (not-suc-le-zero (rw e at h))) (λ e. e)
   first-lowest t (s ∷ ss) d (suc j) h = split (t s) (λ e. absurd (not-suc-le-zero (rw e at h))) (λ e. first-lowest t ss d j (le-of-suc-le-suc (rw e at h)))
-
-pub chunk-at : (w k i : ℕ) (l : List ℕ) → i < k → getD (chunks w k l) i [] ≡ take w (drop (i * w) l)
-chunk-at w zero i l h = absurd (not-suc-le-zero h)
-chunk-at w (suc k) zero l h = rw zero-mul
-chunk-at w (suc k) (suc i) l h =
-    let e : suc i * w ≡ w + i * w = suc-mul i w ∙ omega arith in
-    rw (chunk-at w k i (drop w l) (le-of-suc-le-suc h), drop-drop, e)
-
-pub join-chunks : (w k : ℕ) (l : List ℕ) → length l ≡ k * w → join (chunks w k l) ≡ l
-join-chunks w zero [] h = refl
-join-chunks w zero (x ∷ l) h = let e = h ∙ zero-mul w in absurd (omega arith)
-join-chunks w (suc k) l h =
-    let e = h ∙ suc-mul k w in
-    rw (join-chunks w k (drop w l) (length-drop w l ∙ omega arith)) (take-append-drop w l)
-
--- one slot written over
-pub join-set : (w k i : ℕ) (l q : List ℕ) → length l ≡ k * w → i < k → join (set (chunks w k l) i q) ≡ take (i * w) l ++ (q ++ drop (i * w + w) l)
-join-set w zero i l q h k = absurd (not-suc-le-zero k)
-join-set w (suc k) zero l q h j =
-    let e = h ∙ suc-mul k w in
-    rw (join-chunks w k (drop w l) (length-drop w l ∙ omega arith), zero-mul, zero-add)
-join-set w (suc k) (suc i) l q h j =
-    let e = h ∙ suc-mul k w in
-    let a : suc i * w ≡ w + i * w = suc-mul i w ∙ omega arith in
-    let b : w + i * w + w ≡ w + (i * w + w) = omega arith in
-    rw (join-set w k i (drop w l) q (length-drop w l ∙ omega arith) (le-of-suc-le-suc j), a, b, take-add, drop-drop) (simp append-assoc)
 
 -- What an edit of an area is, in bytes: the slot at the index that a loop finds, written over.
 pub splice : (F : Format) (t : List ℕ → Bool) (q l : List ℕ) → length l ≡ slotCount F l * F .slotSize → any t (slots F l) ≡ true

@@ -1,25 +1,25 @@
--- Demand 2, the exact condition for a get's 0, and what it then gives.
+-- Demand 2, the exact condition for a get's 0, and what it then gives; the same for info.
 use mathlib.Core.Path.{_≡_, refl, sym, ap, _∙_}
-use mathlib.Core.Logic.{_≢_, _↔_}
-use mathlib.Core.Bool.{Bool, true, false, cond, not, _&&_}
-use mathlib.Core.List.{List, [], _++_}
+use mathlib.Core.Logic.{_≢_}
+use mathlib.Core.Bool.{Bool, true, false, not, _&&_}
+use mathlib.Core.List.{List, _++_}
 use mathlib.Core.Option.{Option, none, some}
-use Prim.Native.Nat.{ℕ, _≤_}
+use Prim.Native.Nat.{ℕ}
 use native.Mathlib.Omega.{arith}
 use borrow.Author.Tests.{eqb-true, eq-eqb, leb-true, le-leb}
-use lib.Dec.{eqb, leb}
+use lib.Dec.{leb}
 use lib.ListN.{length}
 use Rattle.cipher.specs.Cmac.{cmac}
 use Rattle.cipher.specs.Kdf.{derivedKey, authPrefix}
-use Rattle.spec.specs.Bytes.{isSome, bytesEq}
-use Rattle.spec.specs.Status.{ok, refuseIf, onOk}
-use Rattle.spec.specs.Name.{Name, validName}
+use Rattle.spec.specs.Bytes.{isSome}
+use Rattle.spec.specs.Status.{ok, refuseIf}
+use Rattle.spec.specs.Name.{validName}
 use Rattle.spec.specs.Record.{requireIntegrity, requireReplayProtection, revision1, dataSizeOf, flagsOf, metadataOf, storedDataOf, tagOf, recordValid, encKey, authKey, crypt, recordCmac, macOk, plaintext}
 use Rattle.spec.specs.Area.{kvFormat, rbpFormat, sized, intact, lookup}
 use Rattle.spec.specs.Binding.{tagMatches, getHeld, getDecision, readCount, readOutput}
-use Rattle.spec.specs.Calls.{keySized, areasSized, areasIntact, guarded, getStatus, get}
-use Rattle.spec.specs.Demands.{Undamaged, Readable, Reads, GetExact}
-use Rattle.spec.proofs.Split.{split, splitO, clash, both, not-false-is}
+use Rattle.spec.specs.Calls.{keySized, areasSized, areasIntact, guarded, getStatus, get, getInfo}
+use Rattle.spec.specs.Demands.{Undamaged, Readable, Reads, GetExact, InfoExact}
+use Rattle.spec.proofs.Split.{splitO, clash, both, not-false-is}
 use Rattle.spec.proofs.Bytes.{bytesEq-eq, eq-bytesEq}
 use Rattle.spec.proofs.Status.{refuse-either, passed, guard-passed, on-ok}
 
@@ -137,4 +137,12 @@ unfolding get
 get-exact = record {
   condition = λ kv rbp key name offset output. (accepted-readable kv rbp key name offset, readable-accepted kv rbp key name offset);
   gives = λ kv rbp key name offset output h. given kv rbp key name offset output h;
+}
+
+pub info-exact : InfoExact
+unfolding getInfo
+info-exact = record {
+  condition = λ kv rbp key name. (accepted-readable kv rbp key name 0, readable-accepted kv rbp key name 0);
+  size = λ kv rbp key name h. on-ok _ _ 0 (readable-accepted kv rbp key name 0 h) ∙ rw (h .found);
+  flags = λ kv rbp key name h. on-ok _ _ 0 (readable-accepted kv rbp key name 0 h) ∙ rw (h .found);
 }

@@ -1,10 +1,9 @@
 -- The premises of demand 3 can be met: two blank slots of each kind, two clients, one of whose sets asks for replay protection.
 use mathlib.Core.Path.{_≡_, refl}
-use mathlib.Core.Bool.{Bool, true, false, not, _&&_}
+use mathlib.Core.Bool.{true, not}
 use mathlib.Core.List.{List, [], _∷_, map, List·Memᴰ, List·Memᴰ·head, List·Memᴰ·tail}
 use Prim.Native.Nat.{ℕ}
 use native.Mathlib.Omega.{arith}
-use lib.ListN.{length}
 use Rattle.spec.specs.Bytes.{every, bytesEq, zeros}
 use Rattle.spec.specs.Status.{refuseIf, onOk}
 use Rattle.spec.specs.Name.{Name, validNameByte, validName}
@@ -12,8 +11,8 @@ use Rattle.spec.specs.Record.{validFlags, metadata, recordValid, sealedI
 use Rattle.spec.specs.Area.{member, slotFree, slotUsed, slotValid, slotHolder, sized, intact}
 use Rattle.spec.specs.Binding.{setHeld, lacksSpace, setDecision, setEffect, getHeld, getDecision, readCount, readOutput, removeHeld, removeDecision}
 use Rattle.spec.specs.Calls.{guarded}
-use Rattle.spec.specs.Interleaving.{left, right, Tagged, by, Interleaving, answers}
-use Rattle.spec.specs.Model.{Call, setCall, getCall, removeCall, callName, Answer, setAnswer, getAnswer, removeAnswer, modelOf, modelStep}
+use Rattle.spec.specs.Interleaving.{left, right, Tagged, by, answers}
+use Rattle.spec.specs.Model.{Call, setCall, getCall, removeCall, callName, setAnswer, getAnswer, removeAnswer, modelOf, modelStep}
 use Rattle.spec.specs.Demands.{IsolationPremise, Isolated}
 use Rattle.spec.proofs.Split.{split, clash, both, not-true-is}
 use Rattle.spec.proofs.Bytes.{bytesEq-refl}

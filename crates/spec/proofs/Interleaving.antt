@@ -1,9 +1,9 @@
 -- Clients do not meet: proved once, for any shared state, any state of one's own, and any invariant.
 use mathlib.Core.Path.{_≡_, refl, sym}
 use mathlib.Core.Bool.{Bool, true, false}
-use mathlib.Core.List.{List, [], _∷_, map, List·Memᴰ, List·Memᴰ·head, List·Memᴰ·tail}
+use mathlib.Core.List.{List, [], _∷_, List·Memᴰ, List·Memᴰ·head, List·Memᴰ·tail}
 use Rattle.spec.specs.Interleaving.{Side, left, right, isSide, Tagged, by, part, Outcome, answers, final, sharedStep}
-use Rattle.spec.proofs.Split.{split, clash}
+use Rattle.spec.proofs.Split.{split}
 
 -- What is asked of one call, for the clients of the test `mine` to see only their own. `step` is a call on the shared state, `own` a call of theirs on
 -- a state that is theirs alone. Agree s m: of what is theirs, s has what m has. Ok is kept by every call that is Allowed.

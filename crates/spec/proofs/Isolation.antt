@@ -1,99 +1,46 @@
 -- Demand 3.
 use mathlib.Core.Path.{_≡_, refl, sym, ap, _∙_}
 use mathlib.Core.Logic.{_≢_}
-use mathlib.Core.Bool.{Bool, true, false, cond, not, _&&_, _||_}
-use mathlib.Core.List.{List, [], _∷_, _++_, map, List·Memᴰ, List·Memᴰ·head, List·Memᴰ·tail, Memᴰ·append-left, Memᴰ·append-right}
-use mathlib.Core.Option.{Option, none, some}
+use mathlib.Core.Bool.{Bool, true, false}
+use mathlib.Core.List.{List, _∷_, _++_, List·Memᴰ, List·Memᴰ·head, List·Memᴰ·tail, Memᴰ·append-left, Memᴰ·append-right}
+use mathlib.Core.Option.{none}
 use Prim.Native.Nat.{ℕ, _≤_}
-use native.Mathlib.Omega.{arith}
-use borrow.Author.Tests.{eqb-true, eqb-false}
 use lib.ListN.{length}
-use Rattle.spec.specs.Bytes.{isSome, bytesEq}
-use Rattle.spec.specs.Status.{ok, isOk, refuseIf, onOk}
+use Rattle.spec.specs.Bytes.{bytesEq}
+use Rattle.spec.specs.Status.{ok, refuseIf, onOk}
 use Rattle.spec.specs.Name.{Name, validName}
-use Rattle.spec.specs.Record.{requireReplayProtection, revision1, flagsOf, tagOf, sealRecord}
-use Rattle.spec.specs.Area.{Format, kvFormat, rbpFormat, slotHolder, slotCount, slots, names, dedup, sized, intact, lookup, hasSpace, Edit, keep, write, clear, editArea}
-use Rattle.spec.specs.Binding.{Binding, Effect, recordOf, lacksSpace, setDecision, setEffect, removeEffect}
-use Rattle.spec.specs.Calls.{keySized, ivSized, guarded, bindingOf}
+use Rattle.spec.specs.Record.{requireReplayProtection, flagsOf}
+use Rattle.spec.specs.Area.{Format, kvFormat, rbpFormat, slotHolder, slotCount, slots, names, dedup, hasSpace, Edit, editArea}
+use Rattle.spec.specs.Binding.{Binding, recordOf, setDecision, setEffect, removeEffect}
+use Rattle.spec.specs.Calls.{guarded, bindingOf}
 use Rattle.spec.specs.Interleaving.{Side, left, right, isSide, Tagged, by, part, Interleaving, answers, final, sharedStep}
-use Rattle.spec.specs.Model.{Call, setCall, getCall, getInfoCall, removeCall, callName, Item, tableLookup, tableEdit, Model, modelOf, modelBinding, modelEdit, modelStep}
-use Rattle.spec.specs.Demands.{Undamaged, Areas, storeStep, isSet, isProtectedSet, namesWhere, Names, RoomFor, IsolationPremise, Isolated, ClientIsolation, atEnd, atStart}
-use Rattle.spec.proofs.Split.{split, splitO, clash, both}
+use Rattle.spec.specs.Model.{Call, setCall, getCall, getInfoCall, removeCall, callName, Model, modelOf, modelBinding, modelStep}
+use Rattle.spec.specs.Demands.{Areas, storeStep, isSet, isProtectedSet, namesWhere, Names, IsolationPremise, Isolated, ClientIsolation, atEnd}
+use Rattle.spec.proofs.Split.{split, clash}
 use Rattle.spec.proofs.Bytes.{bytesEq-eq, bytesEq-refl, dedup-in}
 use Rattle.spec.proofs.Slots.{find-in}
-use Rattle.spec.proofs.Area.{editOption, FormatLaws, KvFits, RbpFits, kv-laws, rbp-laws, Sound, GoodEdit, edit-sound, edit-length, lookup-edit, lookup-edit-other, Roomy, roomy-space, Listed, Roomed, edit-roomy, HasRoom}
+use Rattle.spec.proofs.Slot.{FormatLaws, kv-laws, rbp-laws}
+use Rattle.spec.proofs.Area.{Sound, GoodEdit, Roomy, roomy-space, Listed, edit-roomy}
 use Rattle.spec.proofs.Status.{guard-passed, on-ok, on-refused}
-use Rattle.spec.proofs.Set.{decided, sealed-kv-good, sealed-rbp-good}
-use Rattle.spec.proofs.Interleaving.{Separate, Each, each-in, part-in, part-none, side-other, alone}
+use Rattle.spec.proofs.Decision.{decided, lacks-none}
+use Rattle.spec.proofs.Interleaving.{Separate, each-in, part-in, part-none, side-other, alone}
 use Rattle.spec.proofs.Model.{table-same, table-other, model-start}
-use Rattle.spec.proofs.Request.{Request, requestOf, storeStatus, storeAfter, storeRun, modelStatus, modelRun, store-run, model-run}
-
--- a status is 0 or not
-pub by-status : {P : Type 0} (status : ℕ) → (status ≡ ok → P) → (status ≢ ok → P) → P
-by-status status f g = split (isOk status) (λ e. f (eqb-true status ok e)) (λ e. g (eqb-false status ok e))
+use Rattle.spec.proofs.Request.{requestOf, modelStatus, store-run, model-run}
+use Rattle.spec.proofs.Effect.{by-status, status, effect, applied, binding-eq, refused-unchanged, accepted-binding, other-binding, after-kv-length, after-rbp-length, after-kv-sound, after-rbp-sound}
 
 -- ---- one area, with the names u that it has room for
 
-module _ (F : Format) (Fits : List ℕ → Type 0) (L : FormatLaws F Fits) (u : List Name) (size : ℕ) where
-  record AreaOk (area : List ℕ) : Type 0 where
-    sound : Sound F Fits L area
-    roomy : Roomy F Fits L u area
-    as-long : length area ≡ size
+module _ (F : Format) (L : FormatLaws F) (u : List Name) where
+  edited-roomy : (status : ℕ) (area n : List ℕ) (x : Edit) → (status ≡ ok → Sound F area) → (status ≡ ok → GoodEdit F n x) → (status ≡ ok → Listed F u n x) → Roomy F u area
+      → Roomy F u (onOk status (editArea F area n x) area)
+  edited-roomy status area n x s g i r = by-status status
+      (λ e. rw (on-ok status (editArea F area n x) area e) (edit-roomy F L u area n x (s e) (g e) r (i e)))
+      (λ e. rw (on-refused status (editArea F area n x) area e) r)
 
-  record EditOk (n : Name) (x : Edit) : Type 0 where
-    good : GoodEdit F Fits L n x
-    listed : Listed F Fits L u n x
+start-roomy : (F : Format) (u : List Name) (area : List ℕ) → ((n : Name) → List·Memᴰ n (names F area) → List·Memᴰ n u) → length u ≤ slotCount F area → Roomy F u area
+start-roomy F u area w e = record { within = λ m r k. w m (find-in (slotHolder F) m (slots F area) r k); enough = e }
 
-  area-room : (area : List ℕ) (n : Name) → AreaOk area → List·Memᴰ n u → HasRoom F Fits L area n
-  area-room area n a i = roomy-space F Fits L u area n (a .sound) (a .roomy) i
-
-  area-roomed : (area : List ℕ) (n : Name) (x : Edit) → AreaOk area → Listed F Fits L u n x → Roomed F Fits L area n x
-  area-roomed area n keep a i = tt
-  area-roomed area n (write p) a i = area-room area n a i
-  area-roomed area n clear a i = tt
-
-  area-keeps : (status : ℕ) (area n : List ℕ) (x : Edit) → AreaOk area → (status ≡ ok → EditOk n x) → AreaOk (onOk status (editArea F area n x) area)
-  area-keeps status area n x a h = by-status status
-      (λ e. let f = h e in rw (on-ok status (editArea F area n x) area e) (record {
-        sound = edit-sound F Fits L area n x (a .sound) (f .good);
-        roomy = edit-roomy F Fits L u area n x (a .sound) (f .good) (a .roomy) (f .listed);
-        as-long = edit-length F Fits L area n x (a .sound) (f .good) ∙ a .as-long;
-      }))
-      (λ e. rw (on-refused status (editArea F area n x) area e) a)
-
-  -- an edit of the area at n, and of a table that has at n and at m what the area has
-  area-follows : (area : List ℕ) (t : List Item) (m n : Name) (x : Edit) → AreaOk area → EditOk n x → lookup F area n ≡ tableLookup t n → lookup F area m ≡ tableLookup t m
-      → lookup F (editArea F area n x) m ≡ tableLookup (tableEdit t n x) m
-  area-follows area t m n x a f p q = split (bytesEq m n)
-      (λ e. rw (bytesEq-eq m n e) (lookup-edit F Fits L area n x (a .sound) (f .good) (area-roomed area n x a (f .listed)) ∙ ap (editOption x) p ∙ sym (table-same t n x)))
-      (λ e.
-      let h : m ≢ n = λ z. clash (bytesEq m n) (rw z (bytesEq-refl n)) e in
-      lookup-edit-other F Fits L area m n x (a .sound) (f .good) h ∙ q ∙ sym (table-other t m n x h))
-
-  area-other : (status : ℕ) (area m n : List ℕ) (x : Edit) → AreaOk area → (status ≡ ok → EditOk n x) → m ≢ n → lookup F (onOk status (editArea F area n x) area) m ≡ lookup F area m
-  area-other status area m n x a h k = by-status status
-      (λ e. rw (on-ok status (editArea F area n x) area e) (lookup-edit-other F Fits L area m n x (a .sound) (h e .good) k))
-      (λ e. rw (on-refused status (editArea F area n x) area e))
-
-  -- the start
-  area-start : (area : List ℕ) → sized F area ≡ true → intact F area ≡ true → length area ≡ size → ((n : Name) → List·Memᴰ n (names F area) → List·Memᴰ n u) → length u ≤ slotCount F area
-      → AreaOk area
-  area-start area s i z w e = record {
-    sound = record { size = s; good = i };
-    roomy = record { within = λ m r k. w m (find-in (slotHolder F) m (slots F area) r k); enough = e };
-    as-long = z;
-  }
-
--- ---- the calls: room makes no difference where the names fit, and an accepted effect may be applied
-
-lacks-none : (flags : ℕ) (b : Binding) (kvSpace rbpSpace : Bool) → (b .stored ≡ none → kvSpace ≡ true) → (requireReplayProtection flags ≡ true → b .tag ≡ none → rbpSpace ≡ true)
-    → lacksSpace flags b kvSpace rbpSpace ≡ false
-unfolding lacksSpace
-lacks-none flags b kvSpace rbpSpace h k =
-    let p : (not (isSome (b .stored)) && not kvSpace) ≡ false = splitO (b .stored) (λ e. rw (e, h e)) (λ r e. rw e) in
-    let q : (requireReplayProtection flags && (not (isSome (b .tag)) && not rbpSpace)) ≡ false = split (requireReplayProtection flags)
-    (λ e. rw e (splitO (b .tag) (λ z. rw (z, k e z)) (λ t z. rw z))) (λ e. rw e) in
-    rw (p, q)
+-- ---- the calls: room makes no difference where the names fit, and what is written is among them
 
 decide-room : (c : Call) (b : Binding) (kvSpace rbpSpace : Bool) → (isSet c ≡ true → b .stored ≡ none → kvSpace ≡ true) → (isProtectedSet c ≡ true → b .tag ≡ none → rbpSpace ≡ true)
     → requestOf c .decide b kvSpace rbpSpace ≡ requestOf c .decide b true true
@@ -105,39 +52,26 @@ decide-room (getCall key name offset output) b kvSpace rbpSpace h k = refl
 decide-room (getInfoCall key name) b kvSpace rbpSpace h k = refl
 decide-room (removeCall name) b kvSpace rbpSpace h k = refl
 
-module _ (u v : List Name) (kvSize rbpSize : ℕ) where
-  record EffectOk (n : Name) (e : Effect) : Type 0 where
-    kv : EditOk kvFormat KvFits kv-laws u kvSize n (e .kv)
-    rbp : EditOk rbpFormat RbpFits rbp-laws v rbpSize n (e .rbp)
-
-  effect-ok : (c : Call) (b : Binding) (kvSpace rbpSpace : Bool) → (isSet c ≡ true → List·Memᴰ (callName c) u) → (isProtectedSet c ≡ true → List·Memᴰ (callName c) v)
-      → requestOf c .lengths ≡ true → requestOf c .decide b kvSpace rbpSpace ≡ ok → EffectOk (callName c) (requestOf c .effect b)
-  unfolding setEffect removeEffect
-  effect-ok (setCall key name flags iv value) b kvSpace rbpSpace h k l d =
-      let a = decided name flags value b kvSpace rbpSpace d in
-      let i = eqb-true (length iv) 8 (both (keySized key) (ivSized iv) l .1) in
-      record {
-        kv = record { good = sealed-kv-good key name flags iv value (a .name-valid) (a .flags-valid) i (a .value-sized); listed = h (a .name-valid) };
-        rbp = split (requireReplayProtection flags)
-            (λ e. rw e (record { good = sealed-rbp-good key name flags iv value (a .name-valid) (a .flags-valid) i (a .value-sized); listed = k (rw (a .name-valid, e)) }))
-            (λ e. rw e (record { good = tt; listed = tt }));
-      }
-  effect-ok (getCall key name offset output) b kvSpace rbpSpace h k l d = record { kv = record { good = tt; listed = tt }; rbp = record { good = tt; listed = tt } }
-  effect-ok (getInfoCall key name) b kvSpace rbpSpace h k l d = record { kv = record { good = tt; listed = tt }; rbp = record { good = tt; listed = tt } }
-  effect-ok (removeCall name) b kvSpace rbpSpace h k l d = record {
-    kv = record { good = tt; listed = tt };
-    rbp = split (requireReplayProtection (flagsOf (recordOf (b .stored)))) (λ e. rw e (record { good = tt; listed = tt })) (λ e. rw e (record { good = tt; listed = tt }));
-  }
-
-binding-eq : {o t : Option (List ℕ)} {b : Binding} → o ≡ b .stored → t ≡ b .tag → record { stored = o; tag = t } ≡ b
-binding-eq p q = λ i. record { stored = p i; tag = q i }
+effect-listed : (u v : List Name) (c : Call) (b : Binding) (kvSpace rbpSpace : Bool) → (isSet c ≡ true → List·Memᴰ (callName c) u) → (isProtectedSet c ≡ true → List·Memᴰ (callName c) v)
+    → requestOf c .decide b kvSpace rbpSpace ≡ ok → Listed kvFormat u (callName c) (requestOf c .effect b .kv) × Listed rbpFormat v (callName c) (requestOf c .effect b .rbp)
+unfolding setEffect removeEffect
+effect-listed u v (setCall key name flags iv value) b kvSpace rbpSpace h k d =
+    let a = decided name flags value b kvSpace rbpSpace d in
+    (h (a .name-valid), split (requireReplayProtection flags) (λ e. rw e (k (rw (a .name-valid, e)))) (λ e. rw e tt))
+effect-listed u v (getCall key name offset output) b kvSpace rbpSpace h k d = (tt, tt)
+effect-listed u v (getInfoCall key name) b kvSpace rbpSpace h k d = (tt, tt)
+effect-listed u v (removeCall name) b kvSpace rbpSpace h k d = (tt, split (requireReplayProtection (flagsOf (recordOf (b .stored)))) (λ e. rw e tt) (λ e. rw e tt))
 
 -- ---- the store beside the model, for the clients of a test and the names that are theirs
 
 module _ (u v : List Name) (kvSize rbpSize : ℕ) (mine : Side → Bool) (Mine : Name → Type 0) where
   record Ok (s : Areas) : Type 0 where
-    kv : AreaOk kvFormat KvFits kv-laws u kvSize (s .kv)
-    rbp : AreaOk rbpFormat RbpFits rbp-laws v rbpSize (s .rbp)
+    kv-sound : Sound kvFormat (s .kv)
+    rbp-sound : Sound rbpFormat (s .rbp)
+    kv-roomy : Roomy kvFormat u (s .kv)
+    rbp-roomy : Roomy rbpFormat v (s .rbp)
+    kv-length : length (s .kv) ≡ kvSize
+    rbp-length : length (s .rbp) ≡ rbpSize
 
   record Allowed (d : Side) (c : Call) : Type 0 where
     ours : mine d ≡ true → Mine (callName c)
@@ -149,61 +83,55 @@ module _ (u v : List Name) (kvSize rbpSize : ℕ) (mine : Side → Bool) (Mine :
   Agree s m = (n : Name) → Mine n → bindingOf (s .kv) (s .rbp) n ≡ modelBinding m n
 
   module _ (d : Side) (s : Areas) (c : Call) (a : Allowed d c) (o : Ok s) where
-    abbrev status : ℕ
-    status = storeStatus s (callName c) (requestOf c)
-
-    abbrev effect : Effect
-    effect = requestOf c .effect (bindingOf (s .kv) (s .rbp) (callName c))
-
-    -- the areas are sound and there is room, so the status is decided by the name's binding alone
-    status-is : status ≡ guarded (requestOf c .lengths) true (requestOf c .decide (bindingOf (s .kv) (s .rbp) (callName c)) true true)
-    status-is = rw (
-      o .kv .sound .size,
-      o .rbp .sound .size,
-      o .kv .sound .good,
-      o .rbp .sound .good,
-      decide-room c (bindingOf (s .kv) (s .rbp) (callName c)) (hasSpace kvFormat (s .kv)) (hasSpace rbpFormat (s .rbp))
-          (λ i. area-room kvFormat KvFits kv-laws u kvSize (s .kv) (callName c) (o .kv) (a .kv-listed i))
-          (λ i. area-room rbpFormat RbpFits rbp-laws v rbpSize (s .rbp) (callName c) (o .rbp) (a .rbp-listed i)),
-    )
-
-    applied : status ≡ ok → EffectOk u v kvSize rbpSize (callName c) effect
-    applied e =
-        let g = guard-passed _ _ _ (sym status-is ∙ e) in
-        effect-ok u v kvSize rbpSize c (bindingOf (s .kv) (s .rbp) (callName c)) true true (a .kv-listed) (a .rbp-listed) (g .0) (g .2)
+    listed : status s c ≡ ok → Listed kvFormat u (callName c) (effect s c .kv) × Listed rbpFormat v (callName c) (effect s c .rbp)
+    listed e = effect-listed u v c _ _ _ (a .kv-listed) (a .rbp-listed) (guard-passed _ _ _ e .2)
 
     keeps : Ok (storeStep s c .after)
-    keeps = rw (store-run s c) (record {
-      kv = area-keeps kvFormat KvFits kv-laws u kvSize status (s .kv) (callName c) (effect .kv) (o .kv) (λ e. applied e .kv);
-      rbp = area-keeps rbpFormat RbpFits rbp-laws v rbpSize status (s .rbp) (callName c) (effect .rbp) (o .rbp) (λ e. applied e .rbp);
-    })
+    keeps = record {
+      kv-sound = after-kv-sound s c (o .kv-sound);
+      rbp-sound = after-rbp-sound s c (o .rbp-sound);
+      kv-roomy = rw (store-run s c) (edited-roomy kvFormat kv-laws u (status s c) (s .kv) (callName c) (effect s c .kv) (λ e. o .kv-sound) (λ e. applied s c e .kv-good) (λ e. listed e .0) (o .kv-roomy));
+      rbp-roomy = rw (store-run s c) (edited-roomy rbpFormat rbp-laws v (status s c) (s .rbp) (callName c) (effect s c .rbp) (λ e. o .rbp-sound) (λ e. applied s c e .rbp-good) (λ e. listed e .1) (o .rbp-roomy));
+      kv-length = after-kv-length s c ∙ o .kv-length;
+      rbp-length = after-rbp-length s c ∙ o .rbp-length;
+    }
 
     ignores : (m : Model) → mine d ≡ false → Agree s m → Agree (storeStep s c .after) m
-    ignores m i g n j =
-        let h : n ≢ callName c = λ z. a .others i (rw z at j) in
-        rw (
-          store-run s c,
-          area-other kvFormat KvFits kv-laws u kvSize status (s .kv) n (callName c) (effect .kv) (o .kv) (λ e. applied e .kv) h,
-          area-other rbpFormat RbpFits rbp-laws v rbpSize status (s .rbp) n (callName c) (effect .rbp) (o .rbp) (λ e. applied e .rbp) h,
-        ) (g n j)
+    ignores m i g n j = other-binding s c n (λ z. a .others i (rw z at j)) ∙ g n j
+
+    -- the areas are sound and there is room, so the status is decided by the name's binding alone
+    status-is : status s c ≡ guarded (requestOf c .lengths) true (requestOf c .decide (bindingOf (s .kv) (s .rbp) (callName c)) true true)
+    status-is = rw (
+      o .kv-sound .size,
+      o .rbp-sound .size,
+      o .kv-sound .good,
+      o .rbp-sound .good,
+      decide-room c (bindingOf (s .kv) (s .rbp) (callName c)) (hasSpace kvFormat (s .kv)) (hasSpace rbpFormat (s .rbp))
+          (λ i. roomy-space kvFormat u (s .kv) (callName c) (o .kv-sound) (o .kv-roomy) (a .kv-listed i))
+          (λ i. roomy-space rbpFormat v (s .rbp) (callName c) (o .rbp-sound) (o .rbp-roomy) (a .rbp-listed i)),
+    )
 
     module _ (m : Model) (i : mine d ≡ true) (g : Agree s m) where
       own : bindingOf (s .kv) (s .rbp) (callName c) ≡ modelBinding m (callName c)
       own = g (callName c) (a .ours i)
 
-      same-status : status ≡ modelStatus m (callName c) (requestOf c)
+      same-status : status s c ≡ modelStatus m (callName c) (requestOf c)
       same-status = status-is ∙ rw own
 
       answered : storeStep s c .answer ≡ modelStep m c .answer
       answered = rw (store-run s c, model-run m c, same-status, own)
 
+      -- the model after the call, at a name
       follows : Agree (storeStep s c .after) (modelStep m c .after)
-      follows n j = rw (store-run s c, model-run m c, ← same-status, ← own) (by-status status
-          (λ e. let f = applied e in
-          rw (on-ok status _ (s .kv) e, on-ok status _ (s .rbp) e, on-ok status _ m e) (binding-eq
-          (area-follows kvFormat KvFits kv-laws u kvSize (s .kv) (m .records) n (callName c) (effect .kv) (o .kv) (f .kv) (ap (λ (b : Binding). b .stored) own) (ap (λ (b : Binding). b .stored) (g n j)))
-          (area-follows rbpFormat RbpFits rbp-laws v rbpSize (s .rbp) (m .tags) n (callName c) (effect .rbp) (o .rbp) (f .rbp) (ap (λ (b : Binding). b .tag) own) (ap (λ (b : Binding). b .tag) (g n j)))))
-          (λ e. rw (on-refused status _ (s .kv) e, on-refused status _ (s .rbp) e, on-refused status _ m e) (g n j)))
+      follows n j = rw (model-run m c, ← same-status, ← own) (by-status (status s c)
+          (λ e. rw (on-ok (status s c) _ m e) (split (bytesEq n (callName c))
+          (λ z. rw (bytesEq-eq n (callName c) z) (accepted-binding s c e (modelBinding m (callName c)) own
+          ∙ binding-eq (sym (table-same (m .records) (callName c) (effect s c .kv))) (sym (table-same (m .tags) (callName c) (effect s c .rbp)))))
+          (λ z.
+          let h : n ≢ callName c = λ y. clash (bytesEq n (callName c)) (rw y (bytesEq-refl (callName c))) z in
+          other-binding s c n h ∙ g n j
+          ∙ binding-eq (sym (table-other (m .records) n (callName c) (effect s c .kv) h)) (sym (table-other (m .tags) n (callName c) (effect s c .rbp) h)))))
+          (λ e. rw (on-refused (status s c) _ m e, refused-unchanged s c e) (g n j)))
 
   separate : Separate storeStep modelStep mine Ok Allowed Agree
   separate = record {
@@ -252,8 +180,12 @@ module _ (kv rbp : List ℕ) (ls rs : List Call) (l : List (Tagged Call)) (w : I
 
     ok-start : OkHere (record { kv = kv; rbp = rbp })
     ok-start = record {
-      kv = area-start kvFormat KvFits kv-laws _ (length kv) kv (p .undamaged .kv-sized) (p .undamaged .kv-intact) refl (asked-start kvFormat kv isSet) (p .kv-room);
-      rbp = area-start rbpFormat RbpFits rbp-laws _ (length rbp) rbp (p .undamaged .rbp-sized) (p .undamaged .rbp-intact) refl (asked-start rbpFormat rbp isProtectedSet) (p .rbp-room);
+      kv-sound = record { size = p .undamaged .kv-sized; good = p .undamaged .kv-intact };
+      rbp-sound = record { size = p .undamaged .rbp-sized; good = p .undamaged .rbp-intact };
+      kv-roomy = start-roomy kvFormat _ kv (asked-start kvFormat kv isSet) (p .kv-room);
+      rbp-roomy = start-roomy rbpFormat _ rbp (asked-start rbpFormat rbp isProtectedSet) (p .rbp-room);
+      kv-length = refl;
+      rbp-length = refl;
     }
 
     seen : (part mine (answers (sharedStep storeStep) (record { kv = kv; rbp = rbp }) l) ≡ answers modelStep (modelOf kv rbp) (part mine l))
@@ -286,9 +218,9 @@ module _ (kv rbp : List ℕ) (ls rs : List Call) (l : List (Tagged Call)) (w : I
         left-contents = λ n j. rw (w .left) at (a .1 n j);
         right-contents = λ n j. rw (w .right) at (b .1 n j);
         other-contents = λ n i j. (rw (part-none l) at (o .1 n (i, j))) ∙ sym (model-start kv rbp n);
-        undamaged = record { kv-sized = a .2 .kv .sound .size; rbp-sized = a .2 .rbp .sound .size; kv-intact = a .2 .kv .sound .good; rbp-intact = a .2 .rbp .sound .good };
-        kv-length = a .2 .kv .as-long;
-        rbp-length = a .2 .rbp .as-long;
+        undamaged = record { kv-sized = a .2 .kv-sound .size; rbp-sized = a .2 .rbp-sound .size; kv-intact = a .2 .kv-sound .good; rbp-intact = a .2 .rbp-sound .good };
+        kv-length = a .2 .kv-length;
+        rbp-length = a .2 .rbp-length;
       }
 
 pub client-isolation : ClientIsolation

@@ -1,14 +1,13 @@
 -- The reference model's tables: what an edit does, and that they start with what the areas hold.
-use mathlib.Core.Path.{_≡_, refl, sym, _∙_}
+use mathlib.Core.Path.{_≡_, refl}
 use mathlib.Core.Logic.{_≢_}
-use mathlib.Core.Bool.{Bool, true, false}
+use mathlib.Core.Bool.{false}
 use mathlib.Core.List.{List, [], _∷_}
-use mathlib.Core.Option.{Option, none, some}
+use mathlib.Core.Option.{none}
 use Prim.Native.Nat.{ℕ}
 use Rattle.spec.specs.Bytes.{bytesEq}
 use Rattle.spec.specs.Name.{Name}
 use Rattle.spec.specs.Area.{Format, kvFormat, rbpFormat, find, mapOption, slotPayload, slotHolder, holds, slots, lookup, Edit, keep, write, clear}
-use Rattle.spec.specs.Binding.{Binding}
 use Rattle.spec.specs.Calls.{bindingOf}
 use Rattle.spec.specs.Model.{Item, tableLookup, tableRemove, tableEdit, itemsOf, modelOf, modelBinding}
 use Rattle.spec.proofs.Split.{split, splitO}

@@ -1,22 +1,20 @@
 -- A sealed record read back: its fields, that it is valid and authentic, and its plaintext.
-use mathlib.Core.Path.{_≡_, refl, sym, ap, _∙_}
-use mathlib.Core.Bool.{Bool, true, false, cond, not, _&&_, _||_}
-use mathlib.Core.List.{List, [], _∷_, _++_, append-assoc}
+use mathlib.Core.Path.{_≡_, refl, ap, _∙_}
+use mathlib.Core.Bool.{true, cond, not, _||_}
+use mathlib.Core.List.{List, _++_, append-assoc}
 use Prim.Native.Nat.{ℕ, _+_, _-_, _≤_, _<_}
 use native.Mathlib.Omega.{arith}
 use borrow.Author.Tests.{ltb-true, eq-eqb, le-leb}
-use lib.Dec.{eqb, leb, ltb}
-use lib.ListN.{length, take, drop, length-append}
+use lib.Dec.{ltb}
+use lib.ListN.{length, length-append}
 use lib.Seq.{take-at, drop-at, take-length}
-use Rattle.cipher.specs.Cmac.{cmac}
-use Rattle.cipher.specs.Ctr.{ctr, ctrAt}
+use Rattle.cipher.specs.Ctr.{ctr}
 use Rattle.cipher.proofs.Ctr.{ctr-twice, ctr-length}
 use Rattle.cipher.proofs.Lengths.{cmac-length}
-use Rattle.spec.specs.Bytes.{bytesEq, zeros, allZero}
-use Rattle.spec.specs.Name.{Name}
+use Rattle.spec.specs.Bytes.{allZero}
 use Rattle.spec.specs.Record.{requireConfidentiality, requireIntegrity, requireReplayProtection, validFlags, maxDataSize, metadata, metadataSizeOf, revisionOf, dataSizeOf, flagsOf, ivOf, metadataOf, storedDataOf, tagOf, recordValid, encKey, crypt, recordCmac, sealedIv, sealedData, sealedTag, sealRecord, macOk, plaintext}
 use Rattle.spec.proofs.Split.{split, both}
-use Rattle.spec.proofs.Bytes.{bytesEq-refl, allZero-zeros, length-zeros, le-value}
+use Rattle.spec.proofs.Bytes.{bytesEq-refl, le-value}
 
 pub valid-flags-small : (flags : ℕ) → validFlags flags ≡ true → flags < 16
 unfolding validFlags

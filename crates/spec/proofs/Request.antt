@@ -1,8 +1,7 @@
 -- The calls on a name in one shape: its own lengths, a decision on what the name has and on room, an effect, an answer. The store's step and
 -- the model's step are that shape over two areas and over two tables.
-use mathlib.Core.Path.{_≡_, refl, sym, ap, _∙_}
+use mathlib.Core.Path.{_≡_, refl}
 use mathlib.Core.Bool.{Bool, true, false, _&&_}
-use mathlib.Core.List.{List}
 use Prim.Native.Nat.{ℕ}
 use Rattle.spec.specs.Status.{isOk, refuseIf, onOk}
 use Rattle.spec.specs.Name.{Name}

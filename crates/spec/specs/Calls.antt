@@ -1,6 +1,6 @@
 -- 01's calls, as total functions of what is lent: the status, every other number, and the final bytes of each lent buffer that a call may write.
 -- Each goes the same way: lengths (1), areas intact (2), arguments, what the name has, the decision, the effect.
-use mathlib.Core.Bool.{Bool, true, false, not, _&&_}
+use mathlib.Core.Bool.{Bool, false, not, _&&_}
 use mathlib.Core.List.{List, [], _++_}
 use mathlib.Core.Option.{Option, none, some}
 use Prim.Native.Nat.{ℕ, suc, _+_}
@@ -10,7 +10,7 @@ use Rattle.spec.specs.Bytes.{bytesEq, zeros}
 use Rattle.spec.specs.Status.{ok, errLength, errCorrupt, errInvalidName, errNotFound, refuseIf, onOk}
 use Rattle.spec.specs.Name.{Name, validPrefix}
 use Rattle.spec.specs.Record.{dataSizeOf, flagsOf}
-use Rattle.spec.specs.Area.{kvFormat, rbpFormat, Edit, slots, slotHolder, sized, intact, lookup, hasSpace, first, editArea}
+use Rattle.spec.specs.Area.{kvFormat, rbpFormat, slots, slotHolder, sized, intact, lookup, hasSpace, first, editArea}
 use Rattle.spec.specs.Binding.{Binding, Effect, recordOf, setDecision, setEffect, getDecision, readCount, readOutput, removeDecision, removeEffect}
 
 -- 01: "device key not 16, IV not 8"

@@ -3,7 +3,7 @@ use mathlib.Core.Path.{_≡_}
 use mathlib.Core.Logic.{_≢_, _↔_}
 use mathlib.Core.Bool.{Bool, true, false, cond, _&&_}
 use mathlib.Core.List.{List, [], _∷_, _++_, map, List·Memᴰ}
-use mathlib.Core.Option.{Option, none, some}
+use mathlib.Core.Option.{none, some}
 use Prim.Native.Nat.{ℕ, _+_, _-_, _*_, _≤_, _<_, min}
 use lib.ListN.{length, getD, take, drop}
 use Rattle.cipher.specs.Cmac.{cmac}
@@ -12,12 +12,11 @@ use Rattle.cipher.specs.Kdf.{derivedKey, encPrefix, authPrefix}
 use Rattle.spec.specs.Bytes.{zeros, leBytes}
 use Rattle.spec.specs.Status.{ok, isListed}
 use Rattle.spec.specs.Name.{Name, validName}
-use Rattle.spec.specs.Record.{requireConfidentiality, requireIntegrity, requireReplayProtection, revision1, dataSizeOf, flagsOf, metadataOf, storedDataOf, tagOf, recordValid, plaintext}
+use Rattle.spec.specs.Record.{writeOnce, requireConfidentiality, requireIntegrity, requireReplayProtection, revision1, dataSizeOf, flagsOf, metadataOf, storedDataOf, tagOf, recordValid}
 use Rattle.spec.specs.Area.{Format, kvFormat, rbpFormat, slotFree, slotHolder, slotCount, slots, sized, names, intact, lookup, dedup}
-use Rattle.spec.specs.Binding.{Binding}
 use Rattle.spec.specs.Calls.{Written, Got, Info, Iterated, bindingOf, set, get, getInfo, remove, reset, iteratorNext}
 use Rattle.spec.specs.Interleaving.{Tagged, Interleaving, lefts, rights, Outcome, answers, final, sharedStep}
-use Rattle.spec.specs.Model.{Call, setCall, getCall, getInfoCall, removeCall, callName, Answer, setAnswer, getAnswer, getInfoAnswer, removeAnswer, Model, modelOf, modelBinding, modelStep}
+use Rattle.spec.specs.Model.{Call, setCall, getCall, getInfoCall, removeCall, callName, Answer, setAnswer, getAnswer, getInfoAnswer, removeAnswer, modelOf, modelBinding, modelStep}
 
 -- ---- Demand 1: a status is one of the table, and a refusal changes nothing lent and gives 0 for every other number.
 
@@ -89,6 +88,40 @@ pub record GetExact : Type 0 where
   pub condition : (kv rbp key name : List ℕ) (offset : ℕ) (output : List ℕ) → (get kv rbp key name offset output .status ≡ ok) ↔ Readable kv rbp key name offset
   pub gives : (kv rbp key name : List ℕ) (offset : ℕ) (output : List ℕ) (h : Readable kv rbp key name offset) → Reads key name offset output (h .r) (get kv rbp key name offset output)
 
+-- info: "judged as a get at offset 0 into an empty output; gives data size and flags"
+pub record InfoExact : Type 0 where
+  pub condition : (kv rbp key name : List ℕ) → (getInfo kv rbp key name .status ≡ ok) ↔ Readable kv rbp key name 0
+  pub size : (kv rbp key name : List ℕ) (h : Readable kv rbp key name 0) → getInfo kv rbp key name .dataSize ≡ dataSizeOf (h .r)
+  pub flags : (kv rbp key name : List ℕ) (h : Readable kv rbp key name 0) → getInfo kv rbp key name .flags ≡ flagsOf (h .r)
+
+-- What a set's 0 asks for, so that a set that refuses everything does not pass the round trip.
+pub record FreeSlot (F : Format) (area : List ℕ) : Type 0 where
+  pub i : ℕ
+  pub in-range : i < slotCount F area
+  pub free : slotFree (getD (slots F area) i []) ≡ true
+
+pub record Replaceable (flags : ℕ) (r : List ℕ) : Type 0 where
+  pub valid : recordValid revision1 r ≡ true
+  pub old-flags : writeOnce (flagsOf r) ≡ false
+  pub new-flags : writeOnce flags ≡ false
+  pub same-flags : flags ≡ flagsOf r
+
+pub record Settable (kv rbp key name : List ℕ) (flags : ℕ) (iv value : List ℕ) : Type 0 where
+  pub undamaged : Undamaged kv rbp
+  pub key-sized : length key ≡ 16
+  pub iv-sized : length iv ≡ 8
+  pub name-valid : validName name ≡ true
+  pub flags-known : flags < 16
+  pub flags-whole : requireReplayProtection flags ≡ true → requireIntegrity flags ≡ true
+  pub value-sized : length value ≤ 480
+  pub known : (r : List ℕ) → lookup kvFormat kv name ≡ some r → Replaceable flags r
+  pub new : lookup kvFormat kv name ≡ none → writeOnce flags ≡ true → lookup rbpFormat rbp name ≡ none
+  pub kv-room : lookup kvFormat kv name ≡ none → FreeSlot kvFormat kv
+  pub rbp-room : requireReplayProtection flags ≡ true → lookup rbpFormat rbp name ≡ none → FreeSlot rbpFormat rbp
+
+abbrev pub SetExact : Type 0
+SetExact = (kv rbp key name : List ℕ) (flags : ℕ) (iv value : List ℕ) → (set kv rbp key name flags iv value .status ≡ ok) ↔ Settable kv rbp key name flags iv value
+
 -- an accepted set, then a get with the same key, offset 0 and enough output
 abbrev pub RoundTrip : Type 0
 RoundTrip = (kv rbp key name : List ℕ) (flags : ℕ) (iv value output : List ℕ) → set kv rbp key name flags iv value .status ≡ ok → length value ≤ length output
@@ -140,6 +173,8 @@ SetStores = (kv rbp key name : List ℕ) (flags : ℕ) (iv value : List ℕ) →
 
 pub record Demand2 : Type 0 where
   pub get-exact : GetExact
+  pub info-exact : InfoExact
+  pub set-exact : SetExact
   pub round-trip : RoundTrip
   pub set-stores : SetStores
 

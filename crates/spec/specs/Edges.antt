@@ -9,7 +9,7 @@ use Rattle.cipher.specs.Kdf.{salt, encPrefix, authPrefix}
 use Rattle.spec.specs.Bytes.{every, bytesEq, zeros}
 use Rattle.spec.specs.Status.{ok, errInvalidName, errInvalidFlags, errDataSize, errOffset}
 use Rattle.spec.specs.Name.{Name, keyName}
-use Rattle.spec.specs.Calls.{Written, Got, setStatus, set, get}
+use Rattle.spec.specs.Calls.{setStatus, set, get}
 
 pub record Row : Type 0 where
   pub gives : List ℕ

@@ -1,6 +1,6 @@
 -- 01, "The book of demand 3": the reference model. It has no slots and no room: for each name a record or none, and a CMAC or none, in two finite
 -- tables. Its steps share with the calls the decisions and the record, and nothing else.
-use mathlib.Core.Bool.{Bool, true, false, cond, _&&_}
+use mathlib.Core.Bool.{true, cond, _&&_}
 use mathlib.Core.List.{List, [], _∷_}
 use mathlib.Core.Option.{Option, none, some}
 use Prim.Native.Nat.{ℕ}
