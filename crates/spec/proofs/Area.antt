@@ -1,0 +1,246 @@
+-- The laws of a slot area, over the laws of its format: what an edit does to its own name and to others, and when there is room.
+use mathlib.Core.Path.{_≡_, refl, sym, _∙_}
+use mathlib.Core.Logic.{_≢_, _⊎_, inl, inr}
+use mathlib.Core.Bool.{Bool, true, false, _&&_}
+use mathlib.Core.List.{List, List·Memᴰ}
+use mathlib.Core.Option.{Option, none, some}
+use Prim.Native.Nat.{ℕ, _*_, _≤_}
+use native.Mathlib.Nat.{mul-div-cancel}
+use borrow.Author.Tests.{eqb-true, eq-eqb}
+use lib.Dec.{eqb, leb}
+use lib.ListN.{length}
+use Rattle.spec.specs.Bytes.{every, any, zeros}
+use Rattle.spec.specs.Name.{Name, validName}
+use Rattle.spec.specs.Area.{Format, slotFree, join, replaceFirst, find, mapOption, distinct, slotName, slotPayload, slotValid, slotHolder, holds, makeSlot, slotCount, slots, sized, names, intact, lookup, hasSpace, target, insert, erase, Edit, keep, write, clear, editArea}
+use Rattle.spec.proofs.Split.{splitO, clash, clashO, both}
+use Rattle.spec.proofs.Bytes.{bytesEq-refl, bytesEq-not, length-zeros}
+use Rattle.spec.proofs.Slots.{length-replaceFirst, every-replaceFirst, find-any, one-name, not-held, find-other, find-known, find-new, find-gone, Distinct, distinct-replaceFirst, to-distinct, of-distinct, Within, within-replaceFirst, room}
+use Rattle.spec.proofs.Chunks.{wide, length-chunks, wide-chunks, length-join, chunks-join}
+use Rattle.spec.proofs.Slot.{FormatLaws, Fits, blank-free, made-length, made-holder, made-payload, made-valid}
+
+-- what an edit does to what a name has
+abbrev pub editOption : Edit → Option (List ℕ) → Option (List ℕ)
+editOption keep o = o
+editOption (write p) o = some p
+editOption clear o = none
+
+module _ (F : Format) where
+  -- 01: "undamaged"
+  pub record Sound (area : List ℕ) : Type 0 where
+    pub size : sized F area ≡ true
+    pub good : intact F area ≡ true
+
+  pub sized-length : (area : List ℕ) → sized F area ≡ true → length area ≡ slotCount F area * F .slotSize
+  unfolding sized
+  sized-length area h =
+      let k = both (eqb (length area) (slotCount F area * F .slotSize)) (leb 1 (slotCount F area) && leb (slotCount F area) 64) h in
+      eqb-true (length area) (slotCount F area * F .slotSize) (k .0)
+
+  sound-valid : (area : List ℕ) → Sound area → every (slotValid F) (slots F area) ≡ true
+  unfolding intact
+  sound-valid area s = both (every (slotValid F) (slots F area)) (distinct (names F area)) (s .good) .0
+
+  pub sound-distinct : (area : List ℕ) → Sound area → Distinct (slotHolder F) (slots F area)
+  unfolding intact
+  sound-distinct area s = to-distinct (slotHolder F) (slots F area) (both (every (slotValid F) (slots F area)) (distinct (names F area)) (s .good) .1)
+
+  -- an area of the same length has the same size
+  pub sized-same : (area area′ : List ℕ) → length area′ ≡ length area → sized F area ≡ true → sized F area′ ≡ true
+  unfolding sized
+  sized-same area area′ e h = rw e h
+
+  -- a blank slot
+  blank-length : length (zeros (F .slotSize)) ≡ F .slotSize
+  blank-length = length-zeros (F .slotSize)
+
+  blank-holds : (m : Name) → holds F m (zeros (F .slotSize)) ≡ false
+  unfolding slotHolder
+  blank-holds m = rw (blank-free (F .slotSize))
+
+  blank-valid : slotValid F (zeros (F .slotSize)) ≡ true
+  unfolding slotValid
+  blank-valid = rw (blank-free (F .slotSize))
+
+  -- what may be written under a name
+  pub record Good (n p : List ℕ) : Type 0 where
+    pub name : validName n ≡ true
+    pub payload : Fits F p
+
+  free-holds : (m : Name) (s : List ℕ) → slotFree s ≡ true → holds F m s ≡ false
+  unfolding slotHolder
+  free-holds m s e = rw e
+
+  used-holder : (s : List ℕ) → slotFree s ≡ false → slotHolder F s ≡ none → ⊥
+  unfolding slotHolder
+  used-holder s e h = clashO (slotHolder F s) {a = slotName F s} h (rw e)
+
+  -- lookup and find
+  find-of-none : (area : List ℕ) (n : Name) → lookup F area n ≡ none → find (holds F n) (slots F area) ≡ none
+  unfolding lookup
+  find-of-none area n h = splitO (find (holds F n) (slots F area)) (λ e. e) (λ r e. clashO (lookup F area n) {a = slotPayload F r} h (rw e))
+
+  find-of-some : (area : List ℕ) (n p : List ℕ) → lookup F area n ≡ some p → (s : List ℕ) × (find (holds F n) (slots F area) ≡ some s)
+  unfolding lookup
+  find-of-some area n p h = splitO (find (holds F n) (slots F area)) (λ e. clashO (lookup F area n) (rw e) h) (λ r e. (r, e))
+
+  lookup-find : (area : List ℕ) (n : Name) → lookup F area n ≡ mapOption (slotPayload F) (find (holds F n) (slots F area))
+  unfolding lookup
+  lookup-find area n = refl
+
+  -- the slot that an insert takes
+  target-other : (area : List ℕ) (m n : Name) (s : List ℕ) → m ≢ n → target F area n s ≡ true → holds F m s ≡ false
+  target-other area m n s h e = splitO (lookup F area n) (λ z. free-holds m s (rw z at e)) (λ p z. not-held (slotHolder F) m s n (rw z at e) h)
+
+  target-fits : (area : List ℕ) (n : Name) → (find (holds F n) (slots F area) ≡ none) ⊎ ((s : List ℕ) → target F area n s ≡ holds F n s)
+  target-fits area n = splitO (lookup F area n) (λ e. inl (find-of-none area n e)) (λ p e. inr (λ s. rw e))
+
+  -- there is room for a name: it is known, or a slot is free
+  abbrev pub HasRoom : List ℕ → Name → Type 0
+  HasRoom area n = lookup F area n ≡ none → hasSpace F area ≡ true
+
+  pub record Roomy (u : List Name) (area : List ℕ) : Type 0 where
+    pub within : Within (slotHolder F) u (slots F area)
+    pub enough : length u ≤ slotCount F area
+
+  pub roomy-space : (u : List Name) (area : List ℕ) (n : Name) → Sound area → Roomy u area → List·Memᴰ n u → HasRoom area n
+  unfolding hasSpace
+  roomy-space u area n s r i e = room (slotHolder F) slotFree used-holder n (slots F area) u (sound-distinct area s) (r .within) i
+      (rw (length-chunks (F .slotSize) (slotCount F area) area) (r .enough)) (find-of-none area n e)
+
+  pub target-any : (area : List ℕ) (n : Name) → HasRoom area n → any (target F area n) (slots F area) ≡ true
+  unfolding hasSpace
+  target-any area n h = splitO (lookup F area n) (λ e. rw e (h e)) (λ p e. rw e (sym (find-any (holds F n) (slots F area)) ∙ rw (find-of-some area n p e .1)))
+
+  abbrev pub GoodEdit : Name → Edit → Type 0
+  GoodEdit n keep = Unit {0}
+  GoodEdit n (write p) = Good n p
+  GoodEdit n clear = Unit {0}
+
+  -- a written name is one of u
+  abbrev pub Listed : List Name → Name → Edit → Type 0
+  Listed u n keep = Unit {0}
+  Listed u n (write p) = List·Memᴰ n u
+  Listed u n clear = Unit {0}
+
+  -- what is written has room
+  abbrev pub Roomed : List ℕ → Name → Edit → Type 0
+  Roomed area n keep = Unit {0}
+  Roomed area n (write p) = HasRoom area n
+  Roomed area n clear = Unit {0}
+
+module _ (F : Format) (L : FormatLaws F) where
+  slots-join : (ss : List (List ℕ)) → every (wide (F .slotSize)) ss ≡ true → slots F (join ss) ≡ ss
+  slots-join ss h = rw (length-join (F .slotSize) ss h, mul-div-cancel (length ss) (L .positive)) (chunks-join (F .slotSize) ss h)
+
+  -- one slot replaced by q, in a sound area
+  module _ (area : List ℕ) (t : List ℕ → Bool) (q : List ℕ) (s : Sound F area) (z : length q ≡ F .slotSize) where
+    replaced-wide : every (wide (F .slotSize)) (replaceFirst t q (slots F area)) ≡ true
+    replaced-wide = every-replaceFirst (wide (F .slotSize)) t q (slots F area) (eq-eqb (length q) (F .slotSize) z)
+        (wide-chunks (F .slotSize) (slotCount F area) area (sized-length F area (s .size)))
+
+    pub slots-replaced : slots F (join (replaceFirst t q (slots F area))) ≡ replaceFirst t q (slots F area)
+    slots-replaced = slots-join (replaceFirst t q (slots F area)) replaced-wide
+
+    pub replaced-length : length (join (replaceFirst t q (slots F area))) ≡ length area
+    replaced-length = rw (length-join (F .slotSize) (replaceFirst t q (slots F area)) replaced-wide, length-replaceFirst t q (slots F area), length-chunks (F .slotSize) (slotCount F area) area) (sym (sized-length F area (s .size)))
+
+    replaced-sound : slotValid F q ≡ true → ((m : Name) → holds F m q ≡ true → (find (holds F m) (slots F area) ≡ none) ⊎ ((x : List ℕ) → t x ≡ holds F m x))
+        → Sound F (join (replaceFirst t q (slots F area)))
+    unfolding intact
+    replaced-sound hq h = record {
+      size = sized-same F area (join (replaceFirst t q (slots F area))) replaced-length (s .size);
+      good = rw (slots-replaced, every-replaceFirst (slotValid F) t q (slots F area) hq (sound-valid F area s), of-distinct (slotHolder F) _ (distinct-replaceFirst (slotHolder F) t q (slots F area) (sound-distinct F area s) h));
+    }
+
+  made-holds : (n p : List ℕ) → Good F n p → holds F n (makeSlot F n p) ≡ true
+  made-holds n p g = rw (made-holder F L n p (g .name) (g .payload)) (bytesEq-refl n)
+
+  made-other : (m n p : List ℕ) → Good F n p → m ≢ n → holds F m (makeSlot F n p) ≡ false
+  made-other m n p g h = rw (made-holder F L n p (g .name) (g .payload)) (bytesEq-not m n h)
+
+  -- ---- insert and erase
+
+  module _ (area n p : List ℕ) (s : Sound F area) (g : Good F n p) where
+    pub insert-length : length (insert F area n p) ≡ length area
+    unfolding insert
+    insert-length = replaced-length area (target F area n) (makeSlot F n p) s (made-length F L n p (g .name) (g .payload))
+
+    pub insert-sound : Sound F (insert F area n p)
+    unfolding insert
+    insert-sound = replaced-sound area (target F area n) (makeSlot F n p) s (made-length F L n p (g .name) (g .payload)) (made-valid F L n p (g .name) (g .payload))
+        (λ m h. rw (one-name (slotHolder F) m n (makeSlot F n p) h (made-holds n p g)) (target-fits F area n))
+
+    insert-slots : slots F (insert F area n p) ≡ replaceFirst (target F area n) (makeSlot F n p) (slots F area)
+    unfolding insert
+    insert-slots = slots-replaced area (target F area n) (makeSlot F n p) s (made-length F L n p (g .name) (g .payload))
+
+    pub lookup-insert : HasRoom F area n → lookup F (insert F area n p) n ≡ some p
+    lookup-insert h = lookup-find F (insert F area n p) n ∙ rw (insert-slots, found, made-payload F L n p (g .name) (g .payload))
+      where
+        found : find (holds F n) (replaceFirst (target F area n) (makeSlot F n p) (slots F area)) ≡ some (makeSlot F n p)
+        found = splitO (lookup F area n)
+            (λ e. find-new (slotHolder F) n (target F area n) (makeSlot F n p) (slots F area) (made-holds n p g) (find-of-none F area n e) (target-any F area n h))
+            (λ q e. rw e (find-known (slotHolder F) n (makeSlot F n p) _ (slots F area) (made-holds n p g) (find-of-some F area n q e .1)))
+
+    pub lookup-insert-other : (m : Name) → m ≢ n → lookup F (insert F area n p) m ≡ lookup F area m
+    lookup-insert-other m h = lookup-find F (insert F area n p) m
+        ∙ rw (insert-slots, find-other (slotHolder F) m (target F area n) (makeSlot F n p) (slots F area) (made-other m n p g h) (λ x e. target-other F area m n x h e)) (sym (lookup-find F area m))
+
+  module _ (area n : List ℕ) (s : Sound F area) where
+    pub erase-length : length (erase F area n) ≡ length area
+    unfolding erase
+    erase-length = replaced-length area (holds F n) (zeros (F .slotSize)) s (blank-length F)
+
+    pub erase-sound : Sound F (erase F area n)
+    unfolding erase
+    erase-sound = replaced-sound area (holds F n) (zeros (F .slotSize)) s (blank-length F) (blank-valid F) (λ m h. clash (holds F m (zeros (F .slotSize))) h (blank-holds F m))
+
+    erase-slots : slots F (erase F area n) ≡ replaceFirst (holds F n) (zeros (F .slotSize)) (slots F area)
+    unfolding erase
+    erase-slots = slots-replaced area (holds F n) (zeros (F .slotSize)) s (blank-length F)
+
+    pub lookup-erase : lookup F (erase F area n) n ≡ none
+    lookup-erase = lookup-find F (erase F area n) n
+        ∙ rw (erase-slots, find-gone (slotHolder F) n (zeros (F .slotSize)) (slots F area) (sound-distinct F area s) (blank-holds F n))
+
+    pub lookup-erase-other : (m : Name) → m ≢ n → lookup F (erase F area n) m ≡ lookup F area m
+    lookup-erase-other m h = lookup-find F (erase F area n) m
+        ∙ rw (erase-slots, find-other (slotHolder F) m (holds F n) (zeros (F .slotSize)) (slots F area) (blank-holds F m) (λ x e. not-held (slotHolder F) m x n e h)) (sym (lookup-find F area m))
+
+  -- ---- edits: what they do to a name is what they do in the reference model, and they do nothing to other names
+
+  pub edit-sound : (area n : List ℕ) (x : Edit) → Sound F area → GoodEdit F n x → Sound F (editArea F area n x)
+  edit-sound area n keep s g = s
+  edit-sound area n (write p) s g = insert-sound area n p s g
+  edit-sound area n clear s g = erase-sound area n s
+
+  pub edit-length : (area n : List ℕ) (x : Edit) → Sound F area → GoodEdit F n x → length (editArea F area n x) ≡ length area
+  edit-length area n keep s g = refl
+  edit-length area n (write p) s g = insert-length area n p s g
+  edit-length area n clear s g = erase-length area n s
+
+  pub lookup-edit-other : (area m n : List ℕ) (x : Edit) → Sound F area → GoodEdit F n x → m ≢ n → lookup F (editArea F area n x) m ≡ lookup F area m
+  lookup-edit-other area m n keep s g h = refl
+  lookup-edit-other area m n (write p) s g h = lookup-insert-other area n p s g m h
+  lookup-edit-other area m n clear s g h = lookup-erase-other area n s m h
+
+  -- ---- room: the names in use and those to come are all in u, which has no more names than there are slots
+
+  roomy-replaced : (u : List Name) (area : List ℕ) (t : List ℕ → Bool) (q : List ℕ) → Sound F area → length q ≡ F .slotSize → Roomy F u area
+      → ((m : Name) → holds F m q ≡ true → List·Memᴰ m u) → Roomy F u (join (replaceFirst t q (slots F area)))
+  roomy-replaced u area t q s z r h = record {
+    within = rw (slots-replaced area t q s z) (within-replaceFirst (slotHolder F) u t q (slots F area) (r .within) h);
+    enough = rw (replaced-length area t q s z) (r .enough);
+  }
+
+  pub edit-roomy : (u : List Name) (area n : List ℕ) (x : Edit) → Sound F area → GoodEdit F n x → Roomy F u area → Listed F u n x → Roomy F u (editArea F area n x)
+  unfolding insert erase
+  edit-roomy u area n keep s g r i = r
+  edit-roomy u area n (write p) s g r i = roomy-replaced u area (target F area n) (makeSlot F n p) s (made-length F L n p (g .name) (g .payload)) r
+      (λ m h. rw (one-name (slotHolder F) m n (makeSlot F n p) h (made-holds n p g)) i)
+  edit-roomy u area n clear s g r i = roomy-replaced u area (holds F n) (zeros (F .slotSize)) s (blank-length F) r (λ m h. clash (holds F m (zeros (F .slotSize))) h (blank-holds F m))
+
+  pub lookup-edit : (area n : List ℕ) (x : Edit) → Sound F area → GoodEdit F n x → Roomed F area n x → lookup F (editArea F area n x) n ≡ editOption x (lookup F area n)
+  lookup-edit area n keep s g h = refl
+  lookup-edit area n (write p) s g h = lookup-insert area n p s g h
+  lookup-edit area n clear s g h = lookup-erase area n s

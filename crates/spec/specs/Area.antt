@@ -1,0 +1,182 @@
+-- 01, "Card and chip": an area of 1 to 64 slots, each free or used by one name. One theory for both, over a format.
+use mathlib.Core.Bool.{Bool, true, false, cond, not, _&&_, _||_}
+use mathlib.Core.List.{List, [], _∷_, _++_}
+use mathlib.Core.Option.{Option, none, some}
+use Prim.Native.Nat.{ℕ, zero, suc, _+_, _-_, _*_, _/_}
+use lib.Dec.{eqb, leb}
+use lib.ListN.{length, getD, take, drop}
+use Rattle.spec.specs.Bytes.{every, any, isSome, bytesEq, zeros, allZero, zeroFill, leBytes, u16At}
+use Rattle.spec.specs.Name.{Name, validName}
+
+-- Where the parts of a slot stand. `header` is what stands before the name; `payloadLength` is how many bytes a slot says that it holds.
+pub record Format : Type 0 where
+  pub slotSize : ℕ
+  pub nameOffset : ℕ
+  pub payloadOffset : ℕ
+  pub header : Name → List ℕ → List ℕ
+  pub payloadLength : List ℕ → ℕ
+
+-- 01: a "place" of the card, 584 bytes: state byte, name length, record length (2), name (64), record area (516)
+abbrev pub kvFormat : Format
+kvFormat = record {
+  slotSize = 584;
+  nameOffset = 4;
+  payloadOffset = 68;
+  header = λ name payload. 1 ∷ length name ∷ leBytes 2 (length payload);
+  payloadLength = λ slot. u16At slot 2;
+}
+
+-- 01: an "entry" of the chip, 82 bytes: state byte, name length, name (64), CMAC (16)
+abbrev pub rbpFormat : Format
+rbpFormat = record {
+  slotSize = 82;
+  nameOffset = 2;
+  payloadOffset = 66;
+  header = λ name payload. 1 ∷ length name ∷ [];
+  payloadLength = λ slot. 16;
+}
+
+abbrev pub stateByte : List ℕ → ℕ
+stateByte slot = getD slot 0 0
+
+abbrev pub nameLength : List ℕ → ℕ
+nameLength slot = getD slot 1 0
+
+-- 01: "A free place or entry is all zero."
+unfoldable pub slotFree : List ℕ → Bool
+slotFree slot = allZero slot
+
+-- the first k parts of w bytes each
+abbrev pub chunks : ℕ → ℕ → List ℕ → List (List ℕ)
+chunks w zero l = []
+chunks w (suc k) l = take w l ∷ chunks w k (drop w l)
+
+abbrev pub join : List (List ℕ) → List ℕ
+join [] = []
+join (s ∷ ss) = s ++ join ss
+
+-- q in the place of the first element that passes the test, if there is one
+abbrev pub replaceFirst : {A : Type 0} → (A → Bool) → A → List A → List A
+replaceFirst t q [] = []
+replaceFirst t q (x ∷ xs) = cond (t x) (q ∷ xs) (x ∷ replaceFirst t q xs)
+
+-- the index of the first element that passes the test, or how many there are
+abbrev pub first : {A : Type 0} → (A → Bool) → List A → ℕ
+first t [] = 0
+first t (x ∷ xs) = cond (t x) 0 (suc (first t xs))
+
+abbrev pub find : {A : Type 0} → (A → Bool) → List A → Option A
+find t [] = none
+find t (x ∷ xs) = cond (t x) (some x) (find t xs)
+
+abbrev pub mapOption : {A B : Type 0} → (A → B) → Option A → Option B
+mapOption f none = none
+mapOption f (some a) = some (f a)
+
+abbrev pub member : Name → List Name → Bool
+member n l = any (bytesEq n) l
+
+-- no name twice
+abbrev pub distinct : List Name → Bool
+distinct [] = true
+distinct (n ∷ l) = not (member n l) && distinct l
+
+-- equal names once
+abbrev pub dedup : List Name → List Name
+dedup [] = []
+dedup (n ∷ l) = cond (member n l) (dedup l) (n ∷ dedup l)
+
+abbrev pub isName : Name → Option Name → Bool
+isName n none = false
+isName n (some m) = bytesEq n m
+
+abbrev pub consName : Option Name → List Name → List Name
+consName none l = l
+consName (some n) l = n ∷ l
+
+-- the names of those that have one
+abbrev pub namesBy : {A : Type 0} → (A → Option Name) → List A → List Name
+namesBy holder [] = []
+namesBy holder (x ∷ xs) = consName (holder x) (namesBy holder xs)
+
+module _ (F : Format) where
+  -- 516 bytes on the card, 16 in the chip
+  abbrev pub payloadSize : ℕ
+  payloadSize = F .slotSize - F .payloadOffset
+
+  abbrev pub slotName : List ℕ → Name
+  slotName slot = take (nameLength slot) (drop (F .nameOffset) slot)
+
+  -- the record, or the CMAC
+  abbrev pub slotPayload : List ℕ → List ℕ
+  slotPayload slot = take (F .payloadLength slot) (drop (F .payloadOffset) slot)
+
+  -- 01: "A used one has state 1, a good name, and on the card a record length of at most 516, with zeros after the name and after the record."
+  unfoldable pub slotUsed : List ℕ → Bool
+  slotUsed slot =
+      eqb (stateByte slot) 1 && (leb (nameLength slot) 64 && (validName (slotName slot) && (leb (F .payloadLength slot) payloadSize
+      && (allZero (take (F .payloadOffset - (F .nameOffset + nameLength slot)) (drop (F .nameOffset + nameLength slot) slot))
+      && allZero (drop (F .payloadOffset + F .payloadLength slot) slot)))))
+
+  -- 01: "well shaped"
+  unfoldable pub slotValid : List ℕ → Bool
+  slotValid slot = slotFree slot || slotUsed slot
+
+  -- the name that uses a slot
+  unfoldable pub slotHolder : List ℕ → Option Name
+  slotHolder slot = cond (slotFree slot) none (some (slotName slot))
+
+  abbrev pub holds : Name → List ℕ → Bool
+  holds name slot = isName name (slotHolder slot)
+
+  -- a slot used by a name for a payload
+  unfoldable pub makeSlot : Name → List ℕ → List ℕ
+  makeSlot name payload = F .header name payload ++ (zeroFill 64 name ++ zeroFill payloadSize payload)
+
+  abbrev pub slotCount : List ℕ → ℕ
+  slotCount area = length area / F .slotSize
+
+  abbrev pub slots : List ℕ → List (List ℕ)
+  slots area = chunks (F .slotSize) (slotCount area) area
+
+  -- 01: "1 to 64 places", and no byte besides
+  unfoldable pub sized : List ℕ → Bool
+  sized area = eqb (length area) (slotCount area * F .slotSize) && (leb 1 (slotCount area) && leb (slotCount area) 64)
+
+  -- the names that an area holds
+  abbrev pub names : List ℕ → List Name
+  names area = namesBy slotHolder (slots area)
+
+  -- 01: no "damage": every slot well shaped, and no two used ones with one name
+  unfoldable pub intact : List ℕ → Bool
+  intact area = every slotValid (slots area) && distinct (names area)
+
+  -- what an area holds for a name
+  unfoldable pub lookup : List ℕ → Name → Option (List ℕ)
+  lookup area name = mapOption slotPayload (find (holds name) (slots area))
+
+  -- a free slot is there
+  unfoldable pub hasSpace : List ℕ → Bool
+  hasSpace area = any slotFree (slots area)
+
+  -- 01: "A new name takes the lowest free place or entry; a known name keeps its own."
+  abbrev pub target : List ℕ → Name → List ℕ → Bool
+  target area name = cond (isSome (lookup area name)) (holds name) slotFree
+
+  unfoldable pub insert : List ℕ → Name → List ℕ → List ℕ
+  insert area name payload = join (replaceFirst (target area name) (makeSlot name payload) (slots area))
+
+  -- 01: "the place is zeroed"
+  unfoldable pub erase : List ℕ → Name → List ℕ
+  erase area name = join (replaceFirst (holds name) (zeros (F .slotSize)) (slots area))
+
+-- What a call does to one name in one area. It says the same of an area and of the reference model.
+pub data Edit : Type 0 where
+  keep : Edit
+  write : List ℕ → Edit
+  clear : Edit
+
+abbrev pub editArea : Format → List ℕ → Name → Edit → List ℕ
+editArea F area name keep = area
+editArea F area name (write payload) = insert F area name payload
+editArea F area name clear = erase F area name

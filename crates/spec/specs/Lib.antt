@@ -1,0 +1,11 @@
+pub mod Bytes
+pub mod Status
+pub mod Name
+pub mod Record
+pub mod Area
+pub mod Binding
+pub mod Calls
+pub mod Interleaving
+pub mod Model
+pub mod Demands
+pub mod Edges
