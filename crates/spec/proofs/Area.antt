@@ -11,7 +11,8 @@ use lib.Dec.{eqb, leb}
 use lib.ListN.{length}
 use Rattle.spec.specs.Bytes.{every, any, zeros}
 use Rattle.spec.specs.Name.{Name, validName}
-use Rattle.spec.specs.Area.{Format, slotFree, join, replaceFirst, find, mapOption, distinct, slotName, slotPayload, slotValid, slotHolder, holds, makeSlot, slotCount, slots, sized, names, intact, lookup, hasSpace, target, insert, erase, Edit, keep, write, clear, editArea}
+use Rattle.spec.specs.Slots.{join, replaceFirst, find, mapOption, distinct}
+use Rattle.spec.specs.Area.{Format, slotFree, slotName, slotPayload, slotValid, slotHolder, holds, makeSlot, slotCount, slots, sized, names, intact, lookup, hasSpace, target, insert, erase, Edit, keep, write, clear, editArea}
 use Rattle.spec.proofs.Split.{splitO, clash, clashO, both}
 use Rattle.spec.proofs.Bytes.{bytesEq-refl, bytesEq-not, length-zeros}
 use Rattle.spec.proofs.Slots.{length-replaceFirst, every-replaceFirst, find-any, one-name, not-held, find-other, find-known, find-new, find-gone, Distinct, distinct-replaceFirst, to-distinct, of-distinct, Within, within-replaceFirst, room}
@@ -163,7 +164,7 @@ module _ (F : Format) (L : FormatLaws F) where
   module _ (area n p : List ℕ) (s : Sound F area) (g : Good F n p) where
     pub insert-length : length (insert F area n p) ≡ length area
     unfolding insert
-    insert-length = replaced-length area (target F area n) (makeSlot F n p) s (made-length F L n p (g .name) (g .payload))
+    insert-length = replaced-length area _ (makeSlot F n p) s (made-length F L n p (g .name) (g .payload))
 
     pub insert-sound : Sound F (insert F area n p)
     unfolding insert
@@ -189,23 +190,24 @@ module _ (F : Format) (L : FormatLaws F) where
   module _ (area n : List ℕ) (s : Sound F area) where
     pub erase-length : length (erase F area n) ≡ length area
     unfolding erase
-    erase-length = replaced-length area (holds F n) (zeros (F .slotSize)) s (blank-length F)
+    erase-length = replaced-length area _ (zeros (F .slotSize)) s (blank-length F)
 
     pub erase-sound : Sound F (erase F area n)
     unfolding erase
-    erase-sound = replaced-sound area (holds F n) (zeros (F .slotSize)) s (blank-length F) (blank-valid F) (λ m h. clash (holds F m (zeros (F .slotSize))) h (blank-holds F m))
-
-    erase-slots : slots F (erase F area n) ≡ replaceFirst (holds F n) (zeros (F .slotSize)) (slots F area)
-    unfolding erase
-    erase-slots = slots-replaced area (holds F n) (zeros (F .slotSize)) s (blank-length F)
+    erase-sound = replaced-sound area _ (zeros (F .slotSize)) s (blank-length F) (blank-valid F) (λ m h. clash (holds F m (zeros (F .slotSize))) h (blank-holds F m))
 
     pub lookup-erase : lookup F (erase F area n) n ≡ none
+    unfolding erase
     lookup-erase = lookup-find F (erase F area n) n
-        ∙ rw (erase-slots, find-gone (slotHolder F) n (zeros (F .slotSize)) (slots F area) (sound-distinct F area s) (blank-holds F n))
+        ∙ rw (slots-replaced area (holds F n) (zeros (F .slotSize)) s (blank-length F), find-gone (slotHolder F) n (zeros (F .slotSize)) (slots F area) (sound-distinct F area s) (blank-holds F n))
 
     pub lookup-erase-other : (m : Name) → m ≢ n → lookup F (erase F area n) m ≡ lookup F area m
+    unfolding erase
     lookup-erase-other m h = lookup-find F (erase F area n) m
-        ∙ rw (erase-slots, find-other (slotHolder F) m (holds F n) (zeros (F .slotSize)) (slots F area) (blank-holds F m) (λ x e. not-held (slotHolder F) m x n e h)) (sym (lookup-find F area m))
+        ∙ rw (
+          slots-replaced area (holds F n) (zeros (F .slotSize)) s (blank-length F),
+          find-other (slotHolder F) m (holds F n) (zeros (F .slotSize)) (slots F area) (blank-holds F m) (λ x e. not-held (slotHolder F) m x n e h),
+        ) (sym (lookup-find F area m))
 
   -- ---- edits: what they do to a name is what they do in the reference model, and they do nothing to other names
 
@@ -236,9 +238,9 @@ module _ (F : Format) (L : FormatLaws F) where
   pub edit-roomy : (u : List Name) (area n : List ℕ) (x : Edit) → Sound F area → GoodEdit F n x → Roomy F u area → Listed F u n x → Roomy F u (editArea F area n x)
   unfolding insert erase
   edit-roomy u area n keep s g r i = r
-  edit-roomy u area n (write p) s g r i = roomy-replaced u area (target F area n) (makeSlot F n p) s (made-length F L n p (g .name) (g .payload)) r
+  edit-roomy u area n (write p) s g r i = roomy-replaced u area _ (makeSlot F n p) s (made-length F L n p (g .name) (g .payload)) r
       (λ m h. rw (one-name (slotHolder F) m n (makeSlot F n p) h (made-holds n p g)) i)
-  edit-roomy u area n clear s g r i = roomy-replaced u area (holds F n) (zeros (F .slotSize)) s (blank-length F) r (λ m h. clash (holds F m (zeros (F .slotSize))) h (blank-holds F m))
+  edit-roomy u area n clear s g r i = roomy-replaced u area _ (zeros (F .slotSize)) s (blank-length F) r (λ m h. clash (holds F m (zeros (F .slotSize))) h (blank-holds F m))
 
   pub lookup-edit : (area n : List ℕ) (x : Edit) → Sound F area → GoodEdit F n x → Roomed F area n x → lookup F (editArea F area n x) n ≡ editOption x (lookup F area n)
   lookup-edit area n keep s g h = refl

@@ -10,7 +10,7 @@ use lib.Dec.{eqb}
 use lib.ListN.{length, take, drop, getD, set, length-append, length-drop, take-append-drop}
 use lib.Seq.{take-at, drop-at, drop-drop, length-take-le, take-add}
 use Rattle.spec.specs.Bytes.{every}
-use Rattle.spec.specs.Area.{chunks, join}
+use Rattle.spec.specs.Slots.{chunks, join}
 use Rattle.spec.proofs.Split.{both}
 
 -- a slot is w bytes wide

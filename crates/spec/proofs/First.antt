@@ -1,6 +1,6 @@
 -- The definitions on slots, as a loop over the flat buffer has them: an index, and the bytes from there.
 use mathlib.Core.Path.{_≡_, refl, sym, _∙_}
-use mathlib.Core.Bool.{Bool, true, false, cond}
+use mathlib.Core.Bool.{Bool, true, false, cond, _&&_}
 use mathlib.Core.List.{List, [], _∷_, _++_}
 use Prim.Native.Nat.{ℕ, zero, suc, _+_, _-_, _*_, _<_}
 use native.Mathlib.Nat.{not-suc-le-zero, le-of-suc-le-suc}
@@ -9,8 +9,11 @@ use borrow.Author.Tests.{ltb-true}
 use lib.Dec.{ltb, leb·suc-suc, leb·zero}
 use lib.ListN.{length, take, drop, getD, set, getElem?}
 use lib.Seq.{drop-cons}
-use Rattle.spec.specs.Bytes.{any}
-use Rattle.spec.specs.Area.{Format, chunks, join, replaceFirst, first, find, slotCount, slots}
+use Rattle.spec.specs.Bytes.{any, every}
+use mathlib.Core.Option.{Option}
+use Rattle.spec.specs.Name.{Name}
+use Rattle.spec.specs.Slots.{consName, namesBy, chunks, join, replaceFirst, first, find}
+use Rattle.spec.specs.Area.{Format, slotCount, slots}
 use Rattle.spec.proofs.Split.{split, clash}
 use Rattle.spec.proofs.Chunks.{length-chunks, chunk-at, join-set}
 
@@ -55,3 +58,12 @@ pub first-at : (w k i : ℕ) (t : List ℕ → Bool) (l : List ℕ) (r : Bool) �
 first-at w k i t l r h e =
     let z : i * w + w - i * w ≡ w = omega arith in
     rw (drop-cons (chunks w k l) i [] (rw length-chunks h), chunk-at w k i l h, rw z at e)
+
+-- the same for a test of every slot, and for the names in use
+pub every-at : (w k i : ℕ) (t : List ℕ → Bool) (l : List ℕ) → i < k
+    → every t (drop i (chunks w k l)) ≡ (t (take w (drop (i * w) l)) && every t (drop (suc i) (chunks w k l)))
+every-at w k i t l h = rw (drop-cons (chunks w k l) i [] (rw length-chunks h), chunk-at w k i l h)
+
+pub names-at : (w k i : ℕ) (holder : List ℕ → Option Name) (l : List ℕ) → i < k
+    → namesBy holder (drop i (chunks w k l)) ≡ consName (holder (take w (drop (i * w) l))) (namesBy holder (drop (suc i) (chunks w k l)))
+names-at w k i holder l h = rw (drop-cons (chunks w k l) i [] (rw length-chunks h), chunk-at w k i l h)

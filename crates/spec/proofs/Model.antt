@@ -7,7 +7,8 @@ use mathlib.Core.Option.{none}
 use Prim.Native.Nat.{ℕ}
 use Rattle.spec.specs.Bytes.{bytesEq}
 use Rattle.spec.specs.Name.{Name}
-use Rattle.spec.specs.Area.{Format, kvFormat, rbpFormat, find, mapOption, slotPayload, slotHolder, holds, slots, lookup, Edit, keep, write, clear}
+use Rattle.spec.specs.Slots.{find, mapOption}
+use Rattle.spec.specs.Area.{Format, kvFormat, rbpFormat, slotPayload, slotHolder, holds, slots, lookup, Edit, keep, write, clear}
 use Rattle.spec.specs.Calls.{bindingOf}
 use Rattle.spec.specs.Model.{Item, tableLookup, tableRemove, tableEdit, itemsOf, modelOf, modelBinding}
 use Rattle.spec.proofs.Split.{split, splitO}

@@ -4,7 +4,7 @@ use mathlib.Core.Bool.{true, cond, not, _||_}
 use mathlib.Core.List.{List, _++_, append-assoc}
 use Prim.Native.Nat.{ℕ, _+_, _-_, _≤_, _<_}
 use native.Mathlib.Omega.{arith}
-use borrow.Author.Tests.{ltb-true, eq-eqb, le-leb}
+use borrow.Author.Tests.{eqb-true, leb-true, ltb-true, eq-eqb, le-leb}
 use lib.Dec.{ltb}
 use lib.ListN.{length, length-append}
 use lib.Seq.{take-at, drop-at, take-length}
@@ -19,6 +19,30 @@ use Rattle.spec.proofs.Bytes.{bytesEq-refl, le-value}
 pub valid-flags-small : (flags : ℕ) → validFlags flags ≡ true → flags < 16
 unfolding validFlags
 valid-flags-small flags h = ltb-true flags 16 (both (ltb flags 16) (not (requireReplayProtection flags) || requireIntegrity flags) h .0)
+
+-- what a valid record says of itself
+pub record ValidRecord (revision : ℕ) (r : List ℕ) : Type 0 where
+  pub metadata-size : metadataSizeOf r ≡ 20
+  pub of-revision : revisionOf r ≡ revision
+  pub flags : validFlags (flagsOf r) ≡ true
+  pub data-size : dataSizeOf r ≤ maxDataSize
+  pub record-length : length r ≡ dataSizeOf r + 36
+
+pub valid-record : (revision : ℕ) (r : List ℕ) → recordValid revision r ≡ true → ValidRecord revision r
+unfolding recordValid
+valid-record revision r h =
+    let a = both _ _ h in
+    let b = both _ _ (a .1) in
+    let c = both _ _ (b .1) in
+    let d = both _ _ (c .1) in
+    let e = both _ _ (d .1) in
+    record {
+      metadata-size = eqb-true (metadataSizeOf r) 20 (a .0);
+      of-revision = eqb-true (revisionOf r) revision (b .0);
+      flags = c .0;
+      data-size = leb-true (dataSizeOf r) maxDataSize (d .0);
+      record-length = eqb-true (length r) (dataSizeOf r + 36) (e .0);
+    }
 
 pub crypt-twice : (key name iv m : List ℕ) → crypt key name iv (crypt key name iv m) ≡ m
 unfolding crypt ctr
@@ -141,7 +165,7 @@ module _ (revision : ℕ) (key name : List ℕ) (flags : ℕ) (iv value : List �
 
   pub sealed-mac : requireIntegrity flags ≡ true → macOk key name r ≡ true
   unfolding macOk sealedTag
-  sealed-mac h = rw (sealed-tag, sealed-metadata, sealed-stored, h) (bytesEq-refl (recordCmac key name meta stored))
+  sealed-mac h = rw (sealed-tag, sealed-metadata, sealed-stored, h, bytesEq-refl)
 
   opened : cond (requireConfidentiality flags) (crypt key name (sealedIv flags iv) stored) stored ≡ value
   unfolding sealedIv sealedData

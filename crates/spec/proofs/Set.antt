@@ -10,7 +10,8 @@ use lib.ListN.{length, drop}
 use lib.Seq.{take-length}
 use Rattle.spec.specs.Status.{ok, refuseIf}
 use Rattle.spec.specs.Record.{requireIntegrity, requireReplayProtection, validFlags, revision1, metadata, dataSizeOf, tagOf, encKey, authKey, crypt, recordCmac, sealedIv, sealedData, sealedTag, sealRecord, plaintext}
-use Rattle.spec.specs.Area.{Format, kvFormat, rbpFormat, slotFree, slotHolder, makeSlot, slotCount, slots, hasSpace, target, first, insert, keep, write, editArea}
+use Rattle.spec.specs.Slots.{first}
+use Rattle.spec.specs.Area.{Format, kvFormat, rbpFormat, slotFree, slotHolder, makeSlot, slotCount, slots, hasSpace, target, insert, keep, write, editArea}
 use Rattle.spec.specs.Binding.{setEffect}
 use Rattle.spec.specs.Calls.{Got, keySized, ivSized, areasSized, guarded, bindingOf, setStatus, set, get}
 use Rattle.spec.specs.Demands.{Readable, FreeSlot, Settable, SetExact, RoundTrip, metadataBytes, storedBytes, tagBytes, slotBytes, rbpSlotBytes, Stored, Stores, SetStores, Demand2}

@@ -9,7 +9,7 @@ use native.Mathlib.Omega.{arith}
 use lib.ListN.{length}
 use Rattle.spec.specs.Bytes.{every, any, isSome, bytesEq}
 use Rattle.spec.specs.Name.{Name}
-use Rattle.spec.specs.Area.{replaceFirst, find, isName, member, distinct, consName, namesBy}
+use Rattle.spec.specs.Slots.{replaceFirst, find, isName, member, distinct, consName, namesBy}
 use Rattle.spec.proofs.Split.{split, splitO, clash, clashO, both}
 use Rattle.spec.proofs.Bytes.{bytesEq-eq, bytesEq-refl}
 

@@ -10,7 +10,8 @@ use Rattle.spec.specs.Bytes.{bytesEq, zeros}
 use Rattle.spec.specs.Status.{ok, errLength, errCorrupt, errInvalidName, errNotFound, refuseIf, onOk}
 use Rattle.spec.specs.Name.{Name, validPrefix}
 use Rattle.spec.specs.Record.{dataSizeOf, flagsOf}
-use Rattle.spec.specs.Area.{kvFormat, rbpFormat, slots, slotHolder, sized, intact, lookup, hasSpace, first, editArea}
+use Rattle.spec.specs.Slots.{first}
+use Rattle.spec.specs.Area.{kvFormat, rbpFormat, slots, slotHolder, sized, intact, lookup, hasSpace, editArea}
 use Rattle.spec.specs.Binding.{Binding, Effect, recordOf, setDecision, setEffect, getDecision, readCount, readOutput, removeDecision, removeEffect}
 
 -- 01: "device key not 16, IV not 8"

@@ -13,7 +13,8 @@ use Rattle.spec.specs.Bytes.{zeros, leBytes}
 use Rattle.spec.specs.Status.{ok, isListed}
 use Rattle.spec.specs.Name.{Name, validName}
 use Rattle.spec.specs.Record.{writeOnce, requireConfidentiality, requireIntegrity, requireReplayProtection, revision1, dataSizeOf, flagsOf, metadataOf, storedDataOf, tagOf, recordValid}
-use Rattle.spec.specs.Area.{Format, kvFormat, rbpFormat, slotFree, slotHolder, slotCount, slots, sized, names, intact, lookup, dedup}
+use Rattle.spec.specs.Slots.{dedup}
+use Rattle.spec.specs.Area.{Format, kvFormat, rbpFormat, slotFree, slotHolder, slotCount, slots, sized, names, intact, lookup}
 use Rattle.spec.specs.Calls.{Written, Got, Info, Iterated, bindingOf, set, get, getInfo, remove, reset, iteratorNext}
 use Rattle.spec.specs.Interleaving.{Tagged, Interleaving, lefts, rights, Outcome, answers, final, sharedStep}
 use Rattle.spec.specs.Model.{Call, setCall, getCall, getInfoCall, removeCall, callName, Answer, setAnswer, getAnswer, getInfoAnswer, removeAnswer, modelOf, modelBinding, modelStep}

@@ -2,6 +2,7 @@ pub mod Bytes
 pub mod Status
 pub mod Name
 pub mod Record
+pub mod Slots
 pub mod Area
 pub mod Binding
 pub mod Calls
