@@ -76,11 +76,11 @@ module _ (F : Format) where
   used-holder s e h = clashO (slotHolder F s) {a = slotName F s} h (rw e)
 
   -- lookup and find
-  find-of-none : (area : List ℕ) (n : Name) → lookup F area n ≡ none → find (holds F n) (slots F area) ≡ none
+  pub find-of-none : (area : List ℕ) (n : Name) → lookup F area n ≡ none → find (holds F n) (slots F area) ≡ none
   unfolding lookup
   find-of-none area n h = splitO (find (holds F n) (slots F area)) (λ e. e) (λ r e. clashO (lookup F area n) {a = slotPayload F r} h (rw e))
 
-  find-of-some : (area : List ℕ) (n p : List ℕ) → lookup F area n ≡ some p → (s : List ℕ) × (find (holds F n) (slots F area) ≡ some s)
+  pub find-of-some : (area : List ℕ) (n p : List ℕ) → lookup F area n ≡ some p → (s : List ℕ) × (find (holds F n) (slots F area) ≡ some s)
   unfolding lookup
   find-of-some area n p h = splitO (find (holds F n) (slots F area)) (λ e. clashO (lookup F area n) (rw e) h) (λ r e. (r, e))
 

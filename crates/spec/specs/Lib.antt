@@ -9,4 +9,5 @@ pub mod Calls
 pub mod Interleaving
 pub mod Model
 pub mod Demands
+pub mod Facts
 pub mod Edges
