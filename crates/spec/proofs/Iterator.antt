@@ -12,9 +12,9 @@ use lib.Seq.{getD-drop}
 use Rattle.spec.specs.Bytes.{any}
 use Rattle.spec.specs.Status.{ok, refuseIf}
 use Rattle.spec.specs.Name.{Name, validPrefix}
-use Rattle.spec.specs.Slots.{first}
+use Rattle.spec.specs.Slots.{firstIndex}
 use Rattle.spec.specs.Area.{kvFormat, slotHolder, slotCount, slots}
-use Rattle.spec.specs.Calls.{areasSized, guarded, nameHasPrefix, slotHasPrefix, nextMatch, iteratorStatus, Iterated, iteratorNext}
+use Rattle.spec.specs.Calls.{areasSized, guarded, nameHasPrefix, slotHasPrefix, nextMatch, iteratorStatus, Iterated, storeIteratorNext}
 use Rattle.spec.specs.Facts.{Match, Iterable, IteratorExact}
 use Rattle.spec.proofs.Split.{split, clash, both, not-false-is}
 use Rattle.spec.proofs.Bytes.{bytesEq-eq, eq-bytesEq}
@@ -41,7 +41,7 @@ module _ (kv prefix : List ℕ) (start : ℕ) where
 
   -- how far behind the start slot the first match is
   abbrev ahead : ℕ
-  ahead = first test (drop start all)
+  ahead = firstIndex test (drop start all)
 
   count-is : length all ≡ slotCount kvFormat kv
   count-is = length-chunks 584 (slotCount kvFormat kv) kv
@@ -152,13 +152,13 @@ module _ (kv rbp prefix : List ℕ) (start : ℕ) (nameBuf : List ℕ) where
           lt-ltb (h .i) (length (slots kvFormat kv)) (omega arith),
         )
 
-    iterated : iteratorNext kv rbp prefix start nameBuf
+    iterated : storeIteratorNext kv rbp prefix start nameBuf
         ≡ record { status = ok; nameLen = length (h .name); nextSlot = suc (h .i); nameBuf = h .name ++ drop (length (h .name)) nameBuf }
-    unfolding iteratorNext
+    unfolding storeIteratorNext
     iterated = iterated-eq iterable-ok (on-ok _ _ 0 iterable-ok ∙ rw (next-is, h .found .held)) (on-ok _ _ 0 iterable-ok ∙ rw next-is) (on-ok _ _ nameBuf iterable-ok ∙ rw (next-is, h .found .held))
 
 pub iterator-exact : IteratorExact
-unfolding iteratorNext
+unfolding storeIteratorNext
 iterator-exact = record {
   condition = λ kv rbp prefix start nameBuf. (iterable kv rbp prefix start nameBuf, iterable-ok kv rbp prefix start nameBuf);
   gives = λ kv rbp prefix start nameBuf h. iterated kv rbp prefix start nameBuf h;

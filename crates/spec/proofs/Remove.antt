@@ -11,10 +11,10 @@ use Rattle.spec.specs.Bytes.{any, zeros}
 use Rattle.spec.specs.Status.{ok, refuseIf}
 use Rattle.spec.specs.Name.{validName}
 use Rattle.spec.specs.Record.{requireReplayProtection, flagsOf}
-use Rattle.spec.specs.Slots.{replaceFirst, first}
-use Rattle.spec.specs.Area.{Format, kvFormat, rbpFormat, slotHolder, holds, slotCount, slots, lookup, erase, editArea, clear, keep}
+use Rattle.spec.specs.Slots.{replaceFirst, firstIndex}
+use Rattle.spec.specs.Area.{Format, kvFormat, rbpFormat, slotHolder, holds, slotCount, slots, lookup, eraseSlot, editArea, clear, keep}
 use Rattle.spec.specs.Binding.{removeHeld, removeDecision, removeEffect}
-use Rattle.spec.specs.Calls.{guarded, removeStatus, remove}
+use Rattle.spec.specs.Calls.{guarded, removeStatus, storeRemove}
 use Rattle.spec.specs.Facts.{Removable, Cleared, Clears, RemoveExact}
 use Rattle.spec.proofs.Split.{split, splitO, neither, not-false-is}
 use Rattle.spec.proofs.Slots.{find-any, held-at}
@@ -25,11 +25,11 @@ use Rattle.spec.proofs.Status.{passed, guard-passed, on-ok}
 use Rattle.spec.proofs.Get.{undamaged-of}
 
 -- an erase, in bytes
-erased : (F : Format) (area n : List ℕ) → length area ≡ slotCount F area * F .slotSize → any (holds F n) (slots F area) ≡ true → Cleared F area n (erase F area n)
-unfolding erase
+erased : (F : Format) (area n : List ℕ) → length area ≡ slotCount F area * F .slotSize → any (holds F n) (slots F area) ≡ true → Cleared F area n (eraseSlot F area n)
+unfolding eraseSlot
 erased F area n z t = record {
-  i = first (holds F n) (slots F area);
-  in-range = rw (length-chunks (F .slotSize) (slotCount F area) area) at (ltb-true (first (holds F n) (slots F area)) (length (slots F area)) (sym (any-first (holds F n) (slots F area)) ∙ t));
+  i = firstIndex (holds F n) (slots F area);
+  in-range = rw (length-chunks (F .slotSize) (slotCount F area) area) at (ltb-true (firstIndex (holds F n) (slots F area)) (length (slots F area)) (sym (any-first (holds F n) (slots F area)) ∙ t));
   own = held-at (slotHolder F) n _ (first-passes (holds F n) (slots F area) [] t);
   bytes = splice F (holds F n) (zeros (F .slotSize)) area z t;
 }
@@ -38,8 +38,8 @@ replace-none : {S : Type 0} (t : S → Bool) (q : S) (ss : List S) → any t ss 
 replace-none t q [] h = refl
 replace-none t q (s ∷ ss) h = let k = neither (t s) (any t ss) h in rw (k .0, replace-none t q ss (k .1))
 
-not-erased : (F : Format) (area n : List ℕ) → length area ≡ slotCount F area * F .slotSize → any (holds F n) (slots F area) ≡ false → erase F area n ≡ area
-unfolding erase
+not-erased : (F : Format) (area n : List ℕ) → length area ≡ slotCount F area * F .slotSize → any (holds F n) (slots F area) ≡ false → eraseSlot F area n ≡ area
+unfolding eraseSlot
 not-erased F area n z t = rw (replace-none (holds F n) (zeros (F .slotSize)) (slots F area) t) (join-chunks (F .slotSize) (slotCount F area) area z)
 
 any-of-some : (F : Format) (area n p : List ℕ) → lookup F area n ≡ some p → any (holds F n) (slots F area) ≡ true
@@ -75,21 +75,21 @@ module _ (kv rbp name : List ℕ) where
     unfolding removeStatus removeDecision removeHeld guarded refuseIf
     removable-ok = rw (h .undamaged .kv-sized, h .undamaged .rbp-sized, h .undamaged .kv-intact, h .undamaged .rbp-intact, h .name-valid, h .found, h .valid, h .not-write-once)
 
-    kv-after : remove kv rbp name .kv ≡ erase kvFormat kv name
-    unfolding remove removeEffect
+    kv-after : storeRemove kv rbp name .kv ≡ eraseSlot kvFormat kv name
+    unfolding storeRemove removeEffect
     kv-after = on-ok _ _ kv removable-ok
 
-    rbp-after : remove kv rbp name .rbp ≡ editArea rbpFormat rbp name (cond (requireReplayProtection (flagsOf (h .r))) clear keep)
-    unfolding remove removeEffect
+    rbp-after : storeRemove kv rbp name .rbp ≡ editArea rbpFormat rbp name (cond (requireReplayProtection (flagsOf (h .r))) clear keep)
+    unfolding storeRemove removeEffect
     rbp-after = on-ok _ _ rbp removable-ok ∙ rw (h .found)
 
-    rbp-cleared : requireReplayProtection (flagsOf (h .r)) ≡ true → remove kv rbp name .rbp ≡ erase rbpFormat rbp name
+    rbp-cleared : requireReplayProtection (flagsOf (h .r)) ≡ true → storeRemove kv rbp name .rbp ≡ eraseSlot rbpFormat rbp name
     rbp-cleared e = rbp-after ∙ rw e
 
-    rbp-unchanged : requireReplayProtection (flagsOf (h .r)) ≡ false → remove kv rbp name .rbp ≡ rbp
+    rbp-unchanged : requireReplayProtection (flagsOf (h .r)) ≡ false → storeRemove kv rbp name .rbp ≡ rbp
     rbp-unchanged e = rbp-after ∙ rw e
 
-    clears : Clears kv rbp name (h .r) (remove kv rbp name)
+    clears : Clears kv rbp name (h .r) (storeRemove kv rbp name)
     clears =
         let z = sized-length rbpFormat rbp (h .undamaged .rbp-sized) in
         record {
@@ -100,7 +100,7 @@ module _ (kv rbp name : List ℕ) where
         }
 
 pub remove-exact : RemoveExact
-unfolding remove
+unfolding storeRemove
 remove-exact = record {
   condition = λ kv rbp name. (removable kv rbp name, removable-ok kv rbp name);
   clears = λ kv rbp name h. clears kv rbp name h;

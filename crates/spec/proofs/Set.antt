@@ -10,10 +10,10 @@ use lib.ListN.{length, drop}
 use lib.Seq.{take-length}
 use Rattle.spec.specs.Status.{ok, refuseIf}
 use Rattle.spec.specs.Record.{requireIntegrity, requireReplayProtection, validFlags, revision1, metadata, dataSizeOf, tagOf, encKey, authKey, crypt, recordCmac, sealedIv, sealedData, sealedTag, sealRecord, plaintext}
-use Rattle.spec.specs.Slots.{first}
-use Rattle.spec.specs.Area.{Format, kvFormat, rbpFormat, slotFree, slotHolder, makeSlot, slotCount, slots, hasSpace, target, insert, keep, write, editArea}
+use Rattle.spec.specs.Slots.{firstIndex}
+use Rattle.spec.specs.Area.{Format, kvFormat, rbpFormat, slotFree, slotHolder, makeSlot, slotCount, slots, hasSpace, target, insertSlot, keep, write, editArea}
 use Rattle.spec.specs.Binding.{setEffect}
-use Rattle.spec.specs.Calls.{Got, keySized, ivSized, areasSized, guarded, bindingOf, setStatus, set, get}
+use Rattle.spec.specs.Calls.{Got, keySized, ivSized, areasSized, guarded, bindingOf, setStatus, storeSet, storeGet}
 use Rattle.spec.specs.Demands.{Readable, FreeSlot, Settable, SetExact, RoundTrip, metadataBytes, storedBytes, tagBytes, slotBytes, rbpSlotBytes, Stored, Stores, SetStores, Demand2}
 use Rattle.spec.proofs.Split.{split, both}
 use Rattle.spec.proofs.Slots.{held-at}
@@ -29,13 +29,13 @@ use Rattle.spec.proofs.Get.{undamaged-of, mac-eq, get-exact, info-exact
 -- ---- an insert, in bytes
 
 module _ (F : Format) (area n p : List ℕ) (s : Sound F area) (h : HasRoom F area n) where
-  stored-in : Stored F area n (makeSlot F n p) (insert F area n p)
-  unfolding insert
+  stored-in : Stored F area n (makeSlot F n p) (insertSlot F area n p)
+  unfolding insertSlot
   stored-in =
       let t = target-any F area n h in
       record {
-        i = first (target F area n) (slots F area);
-        in-range = rw (length-chunks (F .slotSize) (slotCount F area) area) at (ltb-true (first (target F area n) (slots F area)) (length (slots F area)) (sym (any-first (target F area n) (slots F area)) ∙ t));
+        i = firstIndex (target F area n) (slots F area);
+        in-range = rw (length-chunks (F .slotSize) (slotCount F area) area) at (ltb-true (firstIndex (target F area n) (slots F area)) (length (slots F area)) (sym (any-first (target F area n) (slots F area)) ∙ t));
         own = λ q e. rw e (held-at (slotHolder F) n _ (rw e at (first-passes (target F area n) (slots F area) [] t)));
         free = λ e. rw e (rw e at (first-passes (target F area n) (slots F area) [] t));
         lowest = λ e j k. rw e at (first-lowest (target F area n) (slots F area) [] j k);
@@ -82,28 +82,28 @@ module _ (kv rbp key name : List ℕ) (flags : ℕ) (iv value : List ℕ) (h : s
   rbp-good = let a = accepted in sealed-rbp-good key name flags iv value (a .choice .name-valid) (a .choice .flags-valid) (a .iv-sized) (a .choice .value-sized)
 
   -- the areas after it
-  kv-after : set kv rbp key name flags iv value .kv ≡ insert kvFormat kv name sealed
-  unfolding set setEffect
+  kv-after : storeSet kv rbp key name flags iv value .kv ≡ insertSlot kvFormat kv name sealed
+  unfolding storeSet setEffect
   kv-after = on-ok _ _ kv h
 
-  rbp-after : set kv rbp key name flags iv value .rbp ≡ editArea rbpFormat rbp name (cond (requireReplayProtection flags) (write (tagOf sealed)) keep)
-  unfolding set setEffect
+  rbp-after : storeSet kv rbp key name flags iv value .rbp ≡ editArea rbpFormat rbp name (cond (requireReplayProtection flags) (write (tagOf sealed)) keep)
+  unfolding storeSet setEffect
   rbp-after = on-ok _ _ rbp h
 
-  rbp-written : requireReplayProtection flags ≡ true → set kv rbp key name flags iv value .rbp ≡ insert rbpFormat rbp name (tagOf sealed)
+  rbp-written : requireReplayProtection flags ≡ true → storeSet kv rbp key name flags iv value .rbp ≡ insertSlot rbpFormat rbp name (tagOf sealed)
   rbp-written e = rbp-after ∙ rw e
 
-  rbp-unchanged : requireReplayProtection flags ≡ false → set kv rbp key name flags iv value .rbp ≡ rbp
+  rbp-unchanged : requireReplayProtection flags ≡ false → storeSet kv rbp key name flags iv value .rbp ≡ rbp
   rbp-unchanged e = rbp-after ∙ rw e
 
-  rbp-sound-after : Sound rbpFormat (set kv rbp key name flags iv value .rbp)
+  rbp-sound-after : Sound rbpFormat (storeSet kv rbp key name flags iv value .rbp)
   rbp-sound-after = split (requireReplayProtection flags)
       (λ e. rw (rbp-written e) (insert-sound rbpFormat rbp-laws rbp name (tagOf sealed) (accepted .rbp-sound) rbp-good))
       (λ e. rw (rbp-unchanged e) (accepted .rbp-sound))
 
   -- ---- the round trip
 
-  readable : Readable (set kv rbp key name flags iv value .kv) (set kv rbp key name flags iv value .rbp) key name 0
+  readable : Readable (storeSet kv rbp key name flags iv value .kv) (storeSet kv rbp key name flags iv value .rbp) key name 0
   readable =
       let a = accepted in
       let f = sealed-flags revision1 key name flags iv value small (a .choice .flags-valid) (a .iv-sized) (a .choice .value-sized) in
@@ -121,7 +121,7 @@ module _ (kv rbp key name : List ℕ) (flags : ℕ) (iv value : List ℕ) (h : s
       }
 
   read-back : (output : List ℕ) → length value ≤ length output
-      → get (set kv rbp key name flags iv value .kv) (set kv rbp key name flags iv value .rbp) key name 0 output
+      → storeGet (storeSet kv rbp key name flags iv value .kv) (storeSet kv rbp key name flags iv value .rbp) key name 0 output
       ≡ record { status = ok; count = length value; output = value ++ drop (length value) output }
   unfolding plaintext crypt encKey readable
   read-back output k =
@@ -156,7 +156,7 @@ module _ (kv rbp key name : List ℕ) (flags : ℕ) (iv value : List ℕ) (h : s
       let z = sealed-tag-length revision1 key name flags iv value small (a .choice .flags-valid) (a .iv-sized) (a .choice .value-sized) in
       rw (z, append-nil (tagOf sealed), tag-bytes)
 
-  stores : Stores kv rbp key name flags iv value (set kv rbp key name flags iv value)
+  stores : Stores kv rbp key name flags iv value (storeSet kv rbp key name flags iv value)
   stores =
       let a = accepted in
       record {
@@ -170,8 +170,8 @@ module _ (kv rbp key name : List ℕ) (flags : ℕ) (iv value : List ℕ) (h : s
 free-slot : (F : Format) (area : List ℕ) → hasSpace F area ≡ true → FreeSlot F area
 unfolding hasSpace
 free-slot F area h = record {
-  i = first slotFree (slots F area);
-  in-range = rw (length-chunks (F .slotSize) (slotCount F area) area) at (ltb-true (first slotFree (slots F area)) (length (slots F area)) (sym (any-first slotFree (slots F area)) ∙ h));
+  i = firstIndex slotFree (slots F area);
+  in-range = rw (length-chunks (F .slotSize) (slotCount F area) area) at (ltb-true (firstIndex slotFree (slots F area)) (length (slots F area)) (sym (any-first slotFree (slots F area)) ∙ h));
   free = first-passes slotFree (slots F area) [] h;
 }
 
@@ -220,15 +220,15 @@ settable-ok kv rbp key name flags iv value h =
     (decided-ok name flags value _ _ _ d)
 
 set-exact : SetExact
-unfolding set
+unfolding storeSet
 set-exact kv rbp key name flags iv value = (settable kv rbp key name flags iv value, settable-ok kv rbp key name flags iv value)
 
 round-trip : RoundTrip
-unfolding set
+unfolding storeSet
 round-trip kv rbp key name flags iv value output h k = read-back kv rbp key name flags iv value h output k
 
 set-stores : SetStores
-unfolding set
+unfolding storeSet
 set-stores kv rbp key name flags iv value h = stores kv rbp key name flags iv value h
 
 pub demand2 : Demand2

@@ -7,7 +7,7 @@ use lib.Dec.{eqb, leb}
 use lib.ListN.{length, getD, take, drop}
 use Rattle.spec.specs.Bytes.{every, any, isSome, zeros, allZero, zeroFill, leBytes, u16At}
 use Rattle.spec.specs.Name.{Name, validName}
-use Rattle.spec.specs.Slots.{chunks, join, replaceFirst, find, mapOption, distinct, isName, namesBy}
+use Rattle.spec.specs.Slots.{chunks, joinSlots, replaceFirst, findFirst, mapOption, distinct, isName, namesBy}
 
 -- Where the parts of a slot stand. `header` is what stands before the name; `payloadLength` is how many bytes a slot says that it holds.
 pub record Format : Type 0 where
@@ -101,7 +101,7 @@ module _ (F : Format) where
 
   -- what an area holds for a name
   unfoldable pub lookup : List ℕ → Name → Option (List ℕ)
-  lookup area name = mapOption slotPayload (find (holds name) (slots area))
+  lookup area name = mapOption slotPayload (findFirst (holds name) (slots area))
 
   -- a free slot is there
   unfoldable pub hasSpace : List ℕ → Bool
@@ -111,12 +111,12 @@ module _ (F : Format) where
   abbrev pub target : List ℕ → Name → List ℕ → Bool
   target area name = cond (isSome (lookup area name)) (holds name) slotFree
 
-  unfoldable pub insert : List ℕ → Name → List ℕ → List ℕ
-  insert area name payload = join (replaceFirst (target area name) (makeSlot name payload) (slots area))
+  unfoldable pub insertSlot : List ℕ → Name → List ℕ → List ℕ
+  insertSlot area name payload = joinSlots (replaceFirst (target area name) (makeSlot name payload) (slots area))
 
   -- 01: "the place is zeroed"
-  unfoldable pub erase : List ℕ → Name → List ℕ
-  erase area name = join (replaceFirst (holds name) (zeros (F .slotSize)) (slots area))
+  unfoldable pub eraseSlot : List ℕ → Name → List ℕ
+  eraseSlot area name = joinSlots (replaceFirst (holds name) (zeros (F .slotSize)) (slots area))
 
 -- What a call does to one name in one area. It says the same of an area and of the reference model.
 pub data Edit : Type 0 where
@@ -126,5 +126,5 @@ pub data Edit : Type 0 where
 
 abbrev pub editArea : Format → List ℕ → Name → Edit → List ℕ
 editArea F area name keep = area
-editArea F area name (write payload) = insert F area name payload
-editArea F area name clear = erase F area name
+editArea F area name (write payload) = insertSlot F area name payload
+editArea F area name clear = eraseSlot F area name

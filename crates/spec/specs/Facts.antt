@@ -11,7 +11,7 @@ use Rattle.spec.specs.Status.{ok}
 use Rattle.spec.specs.Name.{Name, validName, validPrefix}
 use Rattle.spec.specs.Record.{writeOnce, requireReplayProtection, revision1, flagsOf, recordValid}
 use Rattle.spec.specs.Area.{Format, kvFormat, rbpFormat, slotHolder, slotCount, slots, lookup}
-use Rattle.spec.specs.Calls.{Written, remove, iteratorNext}
+use Rattle.spec.specs.Calls.{Written, storeRemove, storeIteratorNext}
 use Rattle.spec.specs.Demands.{Undamaged}
 
 -- ---- remove
@@ -39,8 +39,8 @@ pub record Clears (kv rbp name r : List ℕ) (w : Written) : Type 0 where
   pub rbp-kept : requireReplayProtection (flagsOf r) ≡ false → w .rbp ≡ rbp
 
 pub record RemoveExact : Type 0 where
-  pub condition : (kv rbp name : List ℕ) → (remove kv rbp name .status ≡ ok) ↔ Removable kv rbp name
-  pub clears : (kv rbp name : List ℕ) (h : Removable kv rbp name) → Clears kv rbp name (h .r) (remove kv rbp name)
+  pub condition : (kv rbp name : List ℕ) → (storeRemove kv rbp name .status ≡ ok) ↔ Removable kv rbp name
+  pub clears : (kv rbp name : List ℕ) (h : Removable kv rbp name) → Clears kv rbp name (h .r) (storeRemove kv rbp name)
 
 -- ---- iterator_next
 
@@ -61,7 +61,7 @@ pub record Iterable (kv rbp prefix : List ℕ) (start : ℕ) (nameBuf : List ℕ
   pub found : Match kv prefix start i name
 
 pub record IteratorExact : Type 0 where
-  pub condition : (kv rbp prefix : List ℕ) (start : ℕ) (nameBuf : List ℕ) → (iteratorNext kv rbp prefix start nameBuf .status ≡ ok) ↔ Iterable kv rbp prefix start nameBuf
+  pub condition : (kv rbp prefix : List ℕ) (start : ℕ) (nameBuf : List ℕ) → (storeIteratorNext kv rbp prefix start nameBuf .status ≡ ok) ↔ Iterable kv rbp prefix start nameBuf
   pub gives : (kv rbp prefix : List ℕ) (start : ℕ) (nameBuf : List ℕ) (h : Iterable kv rbp prefix start nameBuf)
-      → iteratorNext kv rbp prefix start nameBuf
+      → storeIteratorNext kv rbp prefix start nameBuf
       ≡ record { status = ok; nameLen = length (h .name); nextSlot = suc (h .i); nameBuf = h .name ++ drop (length (h .name)) nameBuf }

@@ -12,9 +12,9 @@ abbrev pub chunks : ℕ → ℕ → List ℕ → List (List ℕ)
 chunks w zero l = []
 chunks w (suc k) l = take w l ∷ chunks w k (drop w l)
 
-abbrev pub join : List (List ℕ) → List ℕ
-join [] = []
-join (s ∷ ss) = s ++ join ss
+abbrev pub joinSlots : List (List ℕ) → List ℕ
+joinSlots [] = []
+joinSlots (s ∷ ss) = s ++ joinSlots ss
 
 -- q in the place of the first element that passes the test, if there is one
 abbrev pub replaceFirst : {A : Type 0} → (A → Bool) → A → List A → List A
@@ -22,13 +22,13 @@ replaceFirst t q [] = []
 replaceFirst t q (x ∷ xs) = cond (t x) (q ∷ xs) (x ∷ replaceFirst t q xs)
 
 -- the index of the first element that passes the test, or how many there are
-abbrev pub first : {A : Type 0} → (A → Bool) → List A → ℕ
-first t [] = 0
-first t (x ∷ xs) = cond (t x) 0 (suc (first t xs))
+abbrev pub firstIndex : {A : Type 0} → (A → Bool) → List A → ℕ
+firstIndex t [] = 0
+firstIndex t (x ∷ xs) = cond (t x) 0 (suc (firstIndex t xs))
 
-abbrev pub find : {A : Type 0} → (A → Bool) → List A → Option A
-find t [] = none
-find t (x ∷ xs) = cond (t x) (some x) (find t xs)
+abbrev pub findFirst : {A : Type 0} → (A → Bool) → List A → Option A
+findFirst t [] = none
+findFirst t (x ∷ xs) = cond (t x) (some x) (findFirst t xs)
 
 abbrev pub mapOption : {A B : Type 0} → (A → B) → Option A → Option B
 mapOption f none = none
