@@ -45,12 +45,16 @@ module _ {S : Type 0} where
   first-lowest t (s ∷ ss) d zero h = split (t s) (λ e. absurd (not-suc-le-zero (rw e at h))) (λ e. e)
   first-lowest t (s ∷ ss) d (suc j) h = split (t s) (λ e. absurd (not-suc-le-zero (rw e at h))) (λ e. first-lowest t ss d j (le-of-suc-le-suc (rw e at h)))
 
+-- a slot that passes is found within the area
+pub first-in-range : (F : Format) (t : List ℕ → Bool) (l : List ℕ) → any t (slots F l) ≡ true → firstIndex t (slots F l) < slotCount F l
+first-in-range F t l k =
+    let i = ltb-true (firstIndex t (slots F l)) (length (slots F l)) (sym (any-first t (slots F l)) ∙ k) in
+    rw (length-chunks (F .slotSize) (slotCount F l) l) at i
+
 -- What an edit of an area is, in bytes: the slot at the index that a loop finds, written over.
 pub splice : (F : Format) (t : List ℕ → Bool) (q l : List ℕ) → length l ≡ slotCount F l * F .slotSize → any t (slots F l) ≡ true
     → joinSlots (replaceFirst t q (slots F l)) ≡ take (firstIndex t (slots F l) * F .slotSize) l ++ (q ++ drop (firstIndex t (slots F l) * F .slotSize + F .slotSize) l)
-splice F t q l h k =
-    let i = ltb-true (firstIndex t (slots F l)) (length (slots F l)) (sym (any-first t (slots F l)) ∙ k) in
-    rw replaceFirst-set (join-set (F .slotSize) (slotCount F l) (firstIndex t (slots F l)) l q h (rw (length-chunks (F .slotSize) (slotCount F l) l) at i))
+splice F t q l h k = rw replaceFirst-set (join-set (F .slotSize) (slotCount F l) (firstIndex t (slots F l)) l q h (first-in-range F t l k))
 
 -- One turn of a loop: what the test says of `&l[i * w..i * w + w]` decides, from index i on.
 pub first-at : (w k i : ℕ) (t : List ℕ → Bool) (l : List ℕ) (r : Bool) → i < k → r ≡ t (take (i * w + w - i * w) (drop (i * w) l))

@@ -56,8 +56,14 @@ pub recordCmac-length : (key name meta stored : List ℕ) → length (recordCmac
 unfolding recordCmac
 recordCmac-length key name meta stored = cmac-length _ _
 
-module _ (revision : ℕ) (key name : List ℕ) (flags : ℕ) (iv value : List ℕ) (small : revision < 65536) (good : validFlags flags ≡ true)
-    (iv-sized : length iv ≡ 8) (value-sized : length value ≤ maxDataSize) where
+-- what a set has tested of its arguments before it seals them
+pub record Sealable (revision flags : ℕ) (iv value : List ℕ) : Type 0 where
+  pub revision-small : revision < 65536
+  pub flags-valid : validFlags flags ≡ true
+  pub iv-sized : length iv ≡ 8
+  pub value-sized : length value ≤ maxDataSize
+
+module _ (revision : ℕ) (key name : List ℕ) (flags : ℕ) (iv value : List ℕ) (ready : Sealable revision flags iv value) where
   abbrev meta : List ℕ
   meta = metadata revision (length value) flags (sealedIv flags iv)
 
@@ -72,7 +78,7 @@ module _ (revision : ℕ) (key name : List ℕ) (flags : ℕ) (iv value : List �
 
   iv-length : length (sealedIv flags iv) ≡ 8
   unfolding sealedIv
-  iv-length = split (requireConfidentiality flags) (λ e. rw e iv-sized) (λ e. rw e)
+  iv-length = split (requireConfidentiality flags) (λ e. rw e (ready .iv-sized)) (λ e. rw e)
 
   meta-length : length meta ≡ 20
   unfolding metadata
@@ -114,7 +120,7 @@ module _ (revision : ℕ) (key name : List ℕ) (flags : ℕ) (iv value : List �
 
   pub sealed-flags : flagsOf r ≡ flags
   unfolding sealRecord metadata
-  sealed-flags = let h = valid-flags-small flags good in le-value 4 flags (omega arith)
+  sealed-flags = let h = valid-flags-small flags (ready .flags-valid) in le-value 4 flags (omega arith)
 
   sealed-iv : ivOf r ≡ sealedIv flags iv
   unfolding sealRecord metadata
@@ -157,8 +163,8 @@ module _ (revision : ℕ) (key name : List ℕ) (flags : ℕ) (iv value : List �
         sealed-data-size,
         sealed-length,
         eq-eqb revision revision refl,
-        good,
-        le-leb (length value) maxDataSize value-sized,
+        ready .flags-valid,
+        le-leb (length value) maxDataSize (ready .value-sized),
         eq-eqb (length value + 36) (length value + 36) refl,
         iv-zero,
       ) tag-zero

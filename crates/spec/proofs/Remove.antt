@@ -5,7 +5,6 @@ use mathlib.Core.List.{List, [], _∷_}
 use mathlib.Core.Option.{none, some}
 use Prim.Native.Nat.{ℕ, _*_}
 use native.Mathlib.Omega.{arith}
-use borrow.Author.Tests.{ltb-true}
 use lib.ListN.{length}
 use Rattle.spec.specs.Bytes.{any, zeros}
 use Rattle.spec.specs.Status.{ok, refuseIf}
@@ -18,9 +17,9 @@ use Rattle.spec.specs.Calls.{guarded, removeStatus, storeRemove}
 use Rattle.spec.specs.Facts.{Removable, Cleared, Clears, RemoveExact}
 use Rattle.spec.proofs.Split.{split, splitO, neither, not-false-is}
 use Rattle.spec.proofs.Slots.{find-any, held-at}
-use Rattle.spec.proofs.Chunks.{length-chunks, join-chunks}
+use Rattle.spec.proofs.Chunks.{join-chunks}
 use Rattle.spec.proofs.Area.{sized-length, find-of-none, find-of-some}
-use Rattle.spec.proofs.First.{any-first, first-passes, splice}
+use Rattle.spec.proofs.First.{first-in-range, first-passes, splice}
 use Rattle.spec.proofs.Status.{passed, guard-passed, on-ok}
 use Rattle.spec.proofs.Get.{undamaged-of}
 
@@ -29,7 +28,7 @@ erased : (F : Format) (area n : List ℕ) → length area ≡ slotCount F area *
 unfolding eraseSlot
 erased F area n z t = record {
   i = firstIndex (holds F n) (slots F area);
-  in-range = rw (length-chunks (F .slotSize) (slotCount F area) area) at (ltb-true (firstIndex (holds F n) (slots F area)) (length (slots F area)) (sym (any-first (holds F n) (slots F area)) ∙ t));
+  in-range = first-in-range F (holds F n) area t;
   own = held-at (slotHolder F) n _ (first-passes (holds F n) (slots F area) [] t);
   bytes = splice F (holds F n) (zeros (F .slotSize)) area z t;
 }

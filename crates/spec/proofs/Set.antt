@@ -1,11 +1,11 @@
 -- Demand 2, the exact condition for a set's 0, the round trip, and what an accepted set stores.
-use mathlib.Core.Path.{_≡_, refl, sym, _∙_}
+use mathlib.Core.Path.{_≡_, refl, _∙_}
 use mathlib.Core.Bool.{true, false, cond, not, _&&_, _||_}
 use mathlib.Core.List.{List, [], _++_, append-nil}
 use Prim.Native.Nat.{ℕ, _-_, _≤_, _<_, zero-le, min}
 use native.Mathlib.Omega.{arith}
-use borrow.Author.Tests.{eqb-true, eq-eqb, ltb-true, lt-ltb}
-use lib.Dec.{lit<, ltb}
+use borrow.Author.Tests.{eqb-true, eq-eqb, lt-ltb}
+use lib.Dec.{ltb}
 use lib.ListN.{length, drop}
 use lib.Seq.{take-length}
 use Rattle.spec.specs.Status.{ok, refuseIf}
@@ -20,9 +20,9 @@ use Rattle.spec.proofs.Slots.{held-at}
 use Rattle.spec.proofs.Chunks.{length-chunks}
 use Rattle.spec.proofs.Slot.{kv-laws, rbp-laws}
 use Rattle.spec.proofs.Area.{Sound, sized-length, Good, HasRoom, target-any, insert-sound, lookup-insert}
-use Rattle.spec.proofs.Decision.{Decided, decided, decided-ok, sealed-kv-good, sealed-rbp-good}
-use Rattle.spec.proofs.First.{any-first, any-at, first-passes, first-lowest, splice}
-use Rattle.spec.proofs.Record.{valid-flags-small, sealed-length, sealed-data-size, sealed-flags, sealed-tag, sealed-tag-length, sealed-valid, sealed-mac, sealed-plaintext}
+use Rattle.spec.proofs.Decision.{Decided, decided, decided-sealable, decided-ok, sealed-kv-good, sealed-rbp-good}
+use Rattle.spec.proofs.First.{first-in-range, any-at, first-passes, first-lowest, splice}
+use Rattle.spec.proofs.Record.{valid-flags-small, Sealable, sealed-length, sealed-data-size, sealed-flags, sealed-tag, sealed-tag-length, sealed-valid, sealed-mac, sealed-plaintext}
 use Rattle.spec.proofs.Status.{guard-passed, on-ok}
 use Rattle.spec.proofs.Get.{undamaged-of, mac-eq, get-exact, info-exact, given-status}
 
@@ -35,7 +35,7 @@ module _ (F : Format) (area n p : List ℕ) (s : Sound F area) (h : HasRoom F ar
       let t = target-any F area n h in
       record {
         i = firstIndex (target F area n) (slots F area);
-        in-range = rw (length-chunks (F .slotSize) (slotCount F area) area) at (ltb-true (firstIndex (target F area n) (slots F area)) (length (slots F area)) (sym (any-first (target F area n) (slots F area)) ∙ t));
+        in-range = first-in-range F (target F area n) area t;
         own = λ q e. rw e (held-at (slotHolder F) n _ (rw e at (first-passes (target F area n) (slots F area) [] t)));
         free = λ e. rw e (rw e at (first-passes (target F area n) (slots F area) [] t));
         lowest = λ e j k. rw e at (first-lowest (target F area n) (slots F area) [] j k);
@@ -72,14 +72,14 @@ module _ (kv rbp key name : List ℕ) (flags : ℕ) (iv value : List ℕ) (h : s
         choice = decided name flags value _ _ _ (g .2);
       }
 
-  small : revision1 < 65536
-  small = lit< tt
+  ready : Sealable revision1 flags iv value
+  ready = decided-sealable name flags iv value _ _ _ (accepted .choice) (accepted .iv-sized)
 
   kv-good : Good kvFormat name sealed
-  kv-good = let a = accepted in sealed-kv-good key name flags iv value (a .choice .name-valid) (a .choice .flags-valid) (a .iv-sized) (a .choice .value-sized)
+  kv-good = sealed-kv-good key name flags iv value (accepted .choice .name-valid) ready
 
   rbp-good : Good rbpFormat name (tagOf sealed)
-  rbp-good = let a = accepted in sealed-rbp-good key name flags iv value (a .choice .name-valid) (a .choice .flags-valid) (a .iv-sized) (a .choice .value-sized)
+  rbp-good = sealed-rbp-good key name flags iv value (accepted .choice .name-valid) ready
 
   -- the areas after it
   kv-after : storeSet kv rbp key name flags iv value .kv ≡ insertSlot kvFormat kv name sealed
@@ -106,7 +106,7 @@ module _ (kv rbp key name : List ℕ) (flags : ℕ) (iv value : List ℕ) (h : s
   readable : Readable (storeSet kv rbp key name flags iv value .kv) (storeSet kv rbp key name flags iv value .rbp) key name 0
   readable =
       let a = accepted in
-      let f = sealed-flags revision1 key name flags iv value small (a .choice .flags-valid) (a .iv-sized) (a .choice .value-sized) in
+      let f = sealed-flags revision1 key name flags iv value ready in
       let s = insert-sound kvFormat kv-laws kv name sealed (a .kv-sound) kv-good in
       record {
         undamaged = record { kv-sized = rw kv-after (s .size); rbp-sized = rbp-sound-after .size; kv-intact = rw kv-after (s .good); rbp-intact = rbp-sound-after .good };
@@ -114,8 +114,8 @@ module _ (kv rbp key name : List ℕ) (flags : ℕ) (iv value : List ℕ) (h : s
         name-valid = a .choice .name-valid;
         r = sealed;
         found = rw kv-after (lookup-insert kvFormat kv-laws kv name sealed (a .kv-sound) kv-good (a .choice .kv-room));
-        valid = sealed-valid revision1 key name flags iv value small (a .choice .flags-valid) (a .iv-sized) (a .choice .value-sized);
-        authentic = λ e. mac-eq key name sealed (sealed-mac revision1 key name flags iv value small (a .choice .flags-valid) (a .iv-sized) (a .choice .value-sized) (rw f at e));
+        valid = sealed-valid revision1 key name flags iv value ready;
+        authentic = λ e. mac-eq key name sealed (sealed-mac revision1 key name flags iv value ready (rw f at e));
         fresh = λ e. rw (rbp-written (rw f at e)) (lookup-insert rbpFormat rbp-laws rbp name (tagOf sealed) (a .rbp-sound) rbp-good (a .choice .rbp-room (rw f at e)));
         in-range = zero-le;
       }
@@ -125,9 +125,8 @@ module _ (kv rbp key name : List ℕ) (flags : ℕ) (iv value : List ℕ) (h : s
       ≡ record { status = ok; count = length value; output = value ++ drop (length value) output }
   unfolding plaintext crypt encKey readable
   read-back output k =
-      let a = accepted in
-      let d = sealed-data-size revision1 key name flags iv value small (a .choice .flags-valid) (a .iv-sized) (a .choice .value-sized) in
-      let p = sealed-plaintext revision1 key name flags iv value small (a .choice .flags-valid) (a .iv-sized) (a .choice .value-sized) in
+      let d = sealed-data-size revision1 key name flags iv value ready in
+      let p = sealed-plaintext revision1 key name flags iv value ready in
       let g = get-exact .gives _ _ key name 0 output readable in
       let c : min (length output) (dataSizeOf sealed - 0) ≡ length value = rw d (omega arith) in
       let n = g .count ∙ c in
@@ -142,18 +141,16 @@ module _ (kv rbp key name : List ℕ) (flags : ℕ) (iv value : List ℕ) (h : s
   slot-bytes : makeSlot kvFormat name sealed ≡ slotBytes key name flags iv value
   unfolding makeSlot
   slot-bytes =
-      let a = accepted in
-      rw (sealed-length revision1 key name flags iv value small (a .choice .flags-valid) (a .iv-sized) (a .choice .value-sized), sealed-bytes)
+      rw (sealed-length revision1 key name flags iv value ready, sealed-bytes)
 
   tag-bytes : tagOf sealed ≡ tagBytes key name flags iv value
   unfolding metadata sealedIv sealedData sealedTag recordCmac authKey crypt encKey
-  tag-bytes = let a = accepted in sealed-tag revision1 key name flags iv value small (a .choice .flags-valid) (a .iv-sized) (a .choice .value-sized)
+  tag-bytes = sealed-tag revision1 key name flags iv value ready
 
   rbp-slot-bytes : makeSlot rbpFormat name (tagOf sealed) ≡ rbpSlotBytes key name flags iv value
   unfolding makeSlot
   rbp-slot-bytes =
-      let a = accepted in
-      let z = sealed-tag-length revision1 key name flags iv value small (a .choice .flags-valid) (a .iv-sized) (a .choice .value-sized) in
+      let z = sealed-tag-length revision1 key name flags iv value ready in
       rw (z, append-nil (tagOf sealed), tag-bytes)
 
   stores : Stores kv rbp key name flags iv value (storeSet kv rbp key name flags iv value)
@@ -171,7 +168,7 @@ free-slot : (F : Format) (area : List ℕ) → hasSpace F area ≡ true → Free
 unfolding hasSpace
 free-slot F area h = record {
   i = firstIndex slotFree (slots F area);
-  in-range = rw (length-chunks (F .slotSize) (slotCount F area) area) at (ltb-true (firstIndex slotFree (slots F area)) (length (slots F area)) (sym (any-first slotFree (slots F area)) ∙ h));
+  in-range = first-in-range F slotFree area h;
   free = first-passes slotFree (slots F area) [] h;
 }
 
