@@ -21,3 +21,4 @@ pub mod Effect
 pub mod Isolation
 pub mod Instance
 pub mod Edges
+pub mod Theorems

@@ -14,7 +14,7 @@ use Rattle.spec.specs.Slots.{firstIndex}
 use Rattle.spec.specs.Area.{Format, kvFormat, rbpFormat, slotFree, slotHolder, makeSlot, slotCount, slots, hasSpace, target, insertSlot, keep, write, editArea}
 use Rattle.spec.specs.Binding.{setEffect}
 use Rattle.spec.specs.Calls.{Got, keySized, ivSized, areasSized, guarded, bindingOf, setStatus, storeSet, storeGet}
-use Rattle.spec.specs.Demands.{Readable, FreeSlot, Settable, SetExact, RoundTrip, metadataBytes, storedBytes, tagBytes, slotBytes, rbpSlotBytes, Stored, Stores, SetStores, Demand2}
+use Rattle.spec.specs.Demands.{Readable, FreeSlot, Settable, SetExact, RoundTrip, metadataBytes, storedBytes, tagBytes, slotBytes, rbpSlotBytes, Stored, Stores, SetStores}
 use Rattle.spec.proofs.Split.{split, both}
 use Rattle.spec.proofs.Slots.{held-at}
 use Rattle.spec.proofs.Chunks.{length-chunks}
@@ -24,7 +24,7 @@ use Rattle.spec.proofs.Decision.{Decided, decided, decided-sealable, de
 use Rattle.spec.proofs.First.{first-in-range, any-at, first-passes, first-lowest, splice}
 use Rattle.spec.proofs.Record.{valid-flags-small, Sealable, sealed-length, sealed-data-size, sealed-flags, sealed-tag, sealed-tag-length, sealed-valid, sealed-mac, sealed-plaintext}
 use Rattle.spec.proofs.Status.{guard-passed, on-ok}
-use Rattle.spec.proofs.Get.{undamaged-of, mac-eq, get-exact, info-exact, given-status}
+use Rattle.spec.proofs.Get.{undamaged-of, mac-eq, get-exact, given-status}
 
 -- ---- an insert, in bytes
 
@@ -216,17 +216,14 @@ settable-ok kv rbp key name flags iv value h =
     rw (h .undamaged .kv-sized, h .undamaged .rbp-sized, eq-eqb (length key) 16 (h .key-sized), eq-eqb (length iv) 8 (h .iv-sized), h .undamaged .kv-intact, h .undamaged .rbp-intact)
     (decided-ok name flags value _ _ _ d)
 
-set-exact : SetExact
+pub set-exact : SetExact
 unfolding storeSet
 set-exact kv rbp key name flags iv value = (settable kv rbp key name flags iv value, settable-ok kv rbp key name flags iv value)
 
-round-trip : RoundTrip
+pub round-trip : RoundTrip
 unfolding storeSet
 round-trip kv rbp key name flags iv value output h k = read-back kv rbp key name flags iv value h output k
 
-set-stores : SetStores
+pub set-stores : SetStores
 unfolding storeSet
 set-stores kv rbp key name flags iv value h = stores kv rbp key name flags iv value h
-
-pub demand2 : Demand2
-demand2 = record { get-exact = get-exact; info-exact = info-exact; set-exact = set-exact; round-trip = round-trip; set-stores = set-stores }
