@@ -11,7 +11,8 @@ use lib.Dec.{eqb, leb}
 use lib.ListN.{length}
 use Rattle.spec.specs.Bytes.{every, any, zeros}
 use Rattle.spec.specs.Name.{Name, validName}
-use Rattle.spec.specs.Area.{Format, slotFree, join, replaceFirst, find, mapOption, distinct, slotName, slotPayload, slotValid, slotHolder, holds, makeSlot, slotCount, slots, sized, names, intact, lookup, hasSpace, target, insert, erase, Edit, keep, write, clear, editArea}
+use Rattle.spec.specs.Slots.{joinSlots, replaceFirst, findFirst, mapOption, distinct}
+use Rattle.spec.specs.Area.{Format, slotFree, slotName, slotPayload, slotValid, slotHolder, holds, makeSlot, slotCount, slots, sized, names, intact, lookup, hasSpace, target, insertSlot, eraseSlot, Edit, keep, write, clear, editArea}
 use Rattle.spec.proofs.Split.{splitO, clash, clashO, both}
 use Rattle.spec.proofs.Bytes.{bytesEq-refl, bytesEq-not, length-zeros}
 use Rattle.spec.proofs.Slots.{length-replaceFirst, every-replaceFirst, find-any, one-name, not-held, find-other, find-known, find-new, find-gone, Distinct, distinct-replaceFirst, to-distinct, of-distinct, Within, within-replaceFirst, room}
@@ -75,15 +76,15 @@ module _ (F : Format) where
   used-holder s e h = clashO (slotHolder F s) {a = slotName F s} h (rw e)
 
   -- lookup and find
-  find-of-none : (area : List ℕ) (n : Name) → lookup F area n ≡ none → find (holds F n) (slots F area) ≡ none
+  pub find-of-none : (area : List ℕ) (n : Name) → lookup F area n ≡ none → findFirst (holds F n) (slots F area) ≡ none
   unfolding lookup
-  find-of-none area n h = splitO (find (holds F n) (slots F area)) (λ e. e) (λ r e. clashO (lookup F area n) {a = slotPayload F r} h (rw e))
+  find-of-none area n h = splitO (findFirst (holds F n) (slots F area)) (λ e. e) (λ r e. clashO (lookup F area n) {a = slotPayload F r} h (rw e))
 
-  find-of-some : (area : List ℕ) (n p : List ℕ) → lookup F area n ≡ some p → (s : List ℕ) × (find (holds F n) (slots F area) ≡ some s)
+  pub find-of-some : (area : List ℕ) (n p : List ℕ) → lookup F area n ≡ some p → (s : List ℕ) × (findFirst (holds F n) (slots F area) ≡ some s)
   unfolding lookup
-  find-of-some area n p h = splitO (find (holds F n) (slots F area)) (λ e. clashO (lookup F area n) (rw e) h) (λ r e. (r, e))
+  find-of-some area n p h = splitO (findFirst (holds F n) (slots F area)) (λ e. clashO (lookup F area n) (rw e) h) (λ r e. (r, e))
 
-  lookup-find : (area : List ℕ) (n : Name) → lookup F area n ≡ mapOption (slotPayload F) (find (holds F n) (slots F area))
+  lookup-find : (area : List ℕ) (n : Name) → lookup F area n ≡ mapOption (slotPayload F) (findFirst (holds F n) (slots F area))
   unfolding lookup
   lookup-find area n = refl
 
@@ -91,7 +92,7 @@ module _ (F : Format) where
   target-other : (area : List ℕ) (m n : Name) (s : List ℕ) → m ≢ n → target F area n s ≡ true → holds F m s ≡ false
   target-other area m n s h e = splitO (lookup F area n) (λ z. free-holds m s (rw z at e)) (λ p z. not-held (slotHolder F) m s n (rw z at e) h)
 
-  target-fits : (area : List ℕ) (n : Name) → (find (holds F n) (slots F area) ≡ none) ⊎ ((s : List ℕ) → target F area n s ≡ holds F n s)
+  target-fits : (area : List ℕ) (n : Name) → (findFirst (holds F n) (slots F area) ≡ none) ⊎ ((s : List ℕ) → target F area n s ≡ holds F n s)
   target-fits area n = splitO (lookup F area n) (λ e. inl (find-of-none area n e)) (λ p e. inr (λ s. rw e))
 
   -- there is room for a name: it is known, or a slot is free
@@ -129,7 +130,7 @@ module _ (F : Format) where
   Roomed area n clear = Unit {0}
 
 module _ (F : Format) (L : FormatLaws F) where
-  slots-join : (ss : List (List ℕ)) → every (wide (F .slotSize)) ss ≡ true → slots F (join ss) ≡ ss
+  slots-join : (ss : List (List ℕ)) → every (wide (F .slotSize)) ss ≡ true → slots F (joinSlots ss) ≡ ss
   slots-join ss h = rw (length-join (F .slotSize) ss h, mul-div-cancel (length ss) (L .positive)) (chunks-join (F .slotSize) ss h)
 
   -- one slot replaced by q, in a sound area
@@ -138,17 +139,17 @@ module _ (F : Format) (L : FormatLaws F) where
     replaced-wide = every-replaceFirst (wide (F .slotSize)) t q (slots F area) (eq-eqb (length q) (F .slotSize) z)
         (wide-chunks (F .slotSize) (slotCount F area) area (sized-length F area (s .size)))
 
-    pub slots-replaced : slots F (join (replaceFirst t q (slots F area))) ≡ replaceFirst t q (slots F area)
+    pub slots-replaced : slots F (joinSlots (replaceFirst t q (slots F area))) ≡ replaceFirst t q (slots F area)
     slots-replaced = slots-join (replaceFirst t q (slots F area)) replaced-wide
 
-    pub replaced-length : length (join (replaceFirst t q (slots F area))) ≡ length area
+    pub replaced-length : length (joinSlots (replaceFirst t q (slots F area))) ≡ length area
     replaced-length = rw (length-join (F .slotSize) (replaceFirst t q (slots F area)) replaced-wide, length-replaceFirst t q (slots F area), length-chunks (F .slotSize) (slotCount F area) area) (sym (sized-length F area (s .size)))
 
-    replaced-sound : slotValid F q ≡ true → ((m : Name) → holds F m q ≡ true → (find (holds F m) (slots F area) ≡ none) ⊎ ((x : List ℕ) → t x ≡ holds F m x))
-        → Sound F (join (replaceFirst t q (slots F area)))
+    replaced-sound : slotValid F q ≡ true → ((m : Name) → holds F m q ≡ true → (findFirst (holds F m) (slots F area) ≡ none) ⊎ ((x : List ℕ) → t x ≡ holds F m x))
+        → Sound F (joinSlots (replaceFirst t q (slots F area)))
     unfolding intact
     replaced-sound hq h = record {
-      size = sized-same F area (join (replaceFirst t q (slots F area))) replaced-length (s .size);
+      size = sized-same F area (joinSlots (replaceFirst t q (slots F area))) replaced-length (s .size);
       good = rw (slots-replaced, every-replaceFirst (slotValid F) t q (slots F area) hq (sound-valid F area s), of-distinct (slotHolder F) _ (distinct-replaceFirst (slotHolder F) t q (slots F area) (sound-distinct F area s) h));
     }
 
@@ -161,51 +162,52 @@ module _ (F : Format) (L : FormatLaws F) where
   -- ---- insert and erase
 
   module _ (area n p : List ℕ) (s : Sound F area) (g : Good F n p) where
-    pub insert-length : length (insert F area n p) ≡ length area
-    unfolding insert
-    insert-length = replaced-length area (target F area n) (makeSlot F n p) s (made-length F L n p (g .name) (g .payload))
+    pub insert-length : length (insertSlot F area n p) ≡ length area
+    unfolding insertSlot
+    insert-length = replaced-length area _ (makeSlot F n p) s (made-length F L n p (g .name) (g .payload))
 
-    pub insert-sound : Sound F (insert F area n p)
-    unfolding insert
+    pub insert-sound : Sound F (insertSlot F area n p)
+    unfolding insertSlot
     insert-sound = replaced-sound area (target F area n) (makeSlot F n p) s (made-length F L n p (g .name) (g .payload)) (made-valid F L n p (g .name) (g .payload))
         (λ m h. rw (one-name (slotHolder F) m n (makeSlot F n p) h (made-holds n p g)) (target-fits F area n))
 
-    insert-slots : slots F (insert F area n p) ≡ replaceFirst (target F area n) (makeSlot F n p) (slots F area)
-    unfolding insert
+    insert-slots : slots F (insertSlot F area n p) ≡ replaceFirst (target F area n) (makeSlot F n p) (slots F area)
+    unfolding insertSlot
     insert-slots = slots-replaced area (target F area n) (makeSlot F n p) s (made-length F L n p (g .name) (g .payload))
 
-    pub lookup-insert : HasRoom F area n → lookup F (insert F area n p) n ≡ some p
-    lookup-insert h = lookup-find F (insert F area n p) n ∙ rw (insert-slots, found, made-payload F L n p (g .name) (g .payload))
+    pub lookup-insert : HasRoom F area n → lookup F (insertSlot F area n p) n ≡ some p
+    lookup-insert h = lookup-find F (insertSlot F area n p) n ∙ rw (insert-slots, found, made-payload F L n p (g .name) (g .payload))
       where
-        found : find (holds F n) (replaceFirst (target F area n) (makeSlot F n p) (slots F area)) ≡ some (makeSlot F n p)
+        found : findFirst (holds F n) (replaceFirst (target F area n) (makeSlot F n p) (slots F area)) ≡ some (makeSlot F n p)
         found = splitO (lookup F area n)
             (λ e. find-new (slotHolder F) n (target F area n) (makeSlot F n p) (slots F area) (made-holds n p g) (find-of-none F area n e) (target-any F area n h))
             (λ q e. rw e (find-known (slotHolder F) n (makeSlot F n p) _ (slots F area) (made-holds n p g) (find-of-some F area n q e .1)))
 
-    pub lookup-insert-other : (m : Name) → m ≢ n → lookup F (insert F area n p) m ≡ lookup F area m
-    lookup-insert-other m h = lookup-find F (insert F area n p) m
+    pub lookup-insert-other : (m : Name) → m ≢ n → lookup F (insertSlot F area n p) m ≡ lookup F area m
+    lookup-insert-other m h = lookup-find F (insertSlot F area n p) m
         ∙ rw (insert-slots, find-other (slotHolder F) m (target F area n) (makeSlot F n p) (slots F area) (made-other m n p g h) (λ x e. target-other F area m n x h e)) (sym (lookup-find F area m))
 
   module _ (area n : List ℕ) (s : Sound F area) where
-    pub erase-length : length (erase F area n) ≡ length area
-    unfolding erase
-    erase-length = replaced-length area (holds F n) (zeros (F .slotSize)) s (blank-length F)
+    pub erase-length : length (eraseSlot F area n) ≡ length area
+    unfolding eraseSlot
+    erase-length = replaced-length area _ (zeros (F .slotSize)) s (blank-length F)
 
-    pub erase-sound : Sound F (erase F area n)
-    unfolding erase
-    erase-sound = replaced-sound area (holds F n) (zeros (F .slotSize)) s (blank-length F) (blank-valid F) (λ m h. clash (holds F m (zeros (F .slotSize))) h (blank-holds F m))
+    pub erase-sound : Sound F (eraseSlot F area n)
+    unfolding eraseSlot
+    erase-sound = replaced-sound area _ (zeros (F .slotSize)) s (blank-length F) (blank-valid F) (λ m h. clash (holds F m (zeros (F .slotSize))) h (blank-holds F m))
 
-    erase-slots : slots F (erase F area n) ≡ replaceFirst (holds F n) (zeros (F .slotSize)) (slots F area)
-    unfolding erase
-    erase-slots = slots-replaced area (holds F n) (zeros (F .slotSize)) s (blank-length F)
+    pub lookup-erase : lookup F (eraseSlot F area n) n ≡ none
+    unfolding eraseSlot
+    lookup-erase = lookup-find F (eraseSlot F area n) n
+        ∙ rw (slots-replaced area (holds F n) (zeros (F .slotSize)) s (blank-length F), find-gone (slotHolder F) n (zeros (F .slotSize)) (slots F area) (sound-distinct F area s) (blank-holds F n))
 
-    pub lookup-erase : lookup F (erase F area n) n ≡ none
-    lookup-erase = lookup-find F (erase F area n) n
-        ∙ rw (erase-slots, find-gone (slotHolder F) n (zeros (F .slotSize)) (slots F area) (sound-distinct F area s) (blank-holds F n))
-
-    pub lookup-erase-other : (m : Name) → m ≢ n → lookup F (erase F area n) m ≡ lookup F area m
-    lookup-erase-other m h = lookup-find F (erase F area n) m
-        ∙ rw (erase-slots, find-other (slotHolder F) m (holds F n) (zeros (F .slotSize)) (slots F area) (blank-holds F m) (λ x e. not-held (slotHolder F) m x n e h)) (sym (lookup-find F area m))
+    pub lookup-erase-other : (m : Name) → m ≢ n → lookup F (eraseSlot F area n) m ≡ lookup F area m
+    unfolding eraseSlot
+    lookup-erase-other m h = lookup-find F (eraseSlot F area n) m
+        ∙ rw (
+          slots-replaced area (holds F n) (zeros (F .slotSize)) s (blank-length F),
+          find-other (slotHolder F) m (holds F n) (zeros (F .slotSize)) (slots F area) (blank-holds F m) (λ x e. not-held (slotHolder F) m x n e h),
+        ) (sym (lookup-find F area m))
 
   -- ---- edits: what they do to a name is what they do in the reference model, and they do nothing to other names
 
@@ -227,18 +229,18 @@ module _ (F : Format) (L : FormatLaws F) where
   -- ---- room: the names in use and those to come are all in u, which has no more names than there are slots
 
   roomy-replaced : (u : List Name) (area : List ℕ) (t : List ℕ → Bool) (q : List ℕ) → Sound F area → length q ≡ F .slotSize → Roomy F u area
-      → ((m : Name) → holds F m q ≡ true → List·Memᴰ m u) → Roomy F u (join (replaceFirst t q (slots F area)))
+      → ((m : Name) → holds F m q ≡ true → List·Memᴰ m u) → Roomy F u (joinSlots (replaceFirst t q (slots F area)))
   roomy-replaced u area t q s z r h = record {
     within = rw (slots-replaced area t q s z) (within-replaceFirst (slotHolder F) u t q (slots F area) (r .within) h);
     enough = rw (replaced-length area t q s z) (r .enough);
   }
 
   pub edit-roomy : (u : List Name) (area n : List ℕ) (x : Edit) → Sound F area → GoodEdit F n x → Roomy F u area → Listed F u n x → Roomy F u (editArea F area n x)
-  unfolding insert erase
+  unfolding insertSlot eraseSlot
   edit-roomy u area n keep s g r i = r
-  edit-roomy u area n (write p) s g r i = roomy-replaced u area (target F area n) (makeSlot F n p) s (made-length F L n p (g .name) (g .payload)) r
+  edit-roomy u area n (write p) s g r i = roomy-replaced u area _ (makeSlot F n p) s (made-length F L n p (g .name) (g .payload)) r
       (λ m h. rw (one-name (slotHolder F) m n (makeSlot F n p) h (made-holds n p g)) i)
-  edit-roomy u area n clear s g r i = roomy-replaced u area (holds F n) (zeros (F .slotSize)) s (blank-length F) r (λ m h. clash (holds F m (zeros (F .slotSize))) h (blank-holds F m))
+  edit-roomy u area n clear s g r i = roomy-replaced u area _ (zeros (F .slotSize)) s (blank-length F) r (λ m h. clash (holds F m (zeros (F .slotSize))) h (blank-holds F m))
 
   pub lookup-edit : (area n : List ℕ) (x : Edit) → Sound F area → GoodEdit F n x → Roomed F area n x → lookup F (editArea F area n x) n ≡ editOption x (lookup F area n)
   lookup-edit area n keep s g h = refl

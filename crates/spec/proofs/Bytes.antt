@@ -11,7 +11,7 @@ use lib.ListN.{length, take, drop, length-append, length-replicate}
 use lib.Seq.{take-append-seam, drop-append-seam}
 use Rattle.spec.specs.Bytes.{bytesEq, zeros, allZero, zeroFill, leBytes, leValue}
 use Rattle.spec.specs.Name.{Name}
-use Rattle.spec.specs.Area.{member, dedup}
+use Rattle.spec.specs.Slots.{member, dedup}
 use Rattle.spec.proofs.Split.{split, clash, both}
 
 -- ---- the equality test

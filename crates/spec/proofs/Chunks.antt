@@ -10,7 +10,7 @@ use lib.Dec.{eqb}
 use lib.ListN.{length, take, drop, getD, set, length-append, length-drop, take-append-drop}
 use lib.Seq.{take-at, drop-at, drop-drop, length-take-le, take-add}
 use Rattle.spec.specs.Bytes.{every}
-use Rattle.spec.specs.Area.{chunks, join}
+use Rattle.spec.specs.Slots.{chunks, joinSlots}
 use Rattle.spec.proofs.Split.{both}
 
 -- a slot is w bytes wide
@@ -27,18 +27,18 @@ wide-chunks w (suc k) l h =
     let e = h ∙ suc-mul k w in
     rw (eq-eqb (length (take w l)) w (length-take-le w l (omega arith))) (wide-chunks w k (drop w l) (length-drop w l ∙ omega arith))
 
-pub length-join : (w : ℕ) (ss : List (List ℕ)) → every (wide w) ss ≡ true → length (join ss) ≡ length ss * w
+pub length-join : (w : ℕ) (ss : List (List ℕ)) → every (wide w) ss ≡ true → length (joinSlots ss) ≡ length ss * w
 length-join w [] h = sym (zero-mul w)
 length-join w (s ∷ ss) h =
     let k = both (wide w s) (every (wide w) ss) h in
-    length-append s (join ss) ∙ rw (eqb-true (length s) w (k .0), length-join w ss (k .1), suc-mul) (omega arith)
+    length-append s (joinSlots ss) ∙ rw (eqb-true (length s) w (k .0), length-join w ss (k .1), suc-mul) (omega arith)
 
-pub chunks-join : (w : ℕ) (ss : List (List ℕ)) → every (wide w) ss ≡ true → chunks w (length ss) (join ss) ≡ ss
+pub chunks-join : (w : ℕ) (ss : List (List ℕ)) → every (wide w) ss ≡ true → chunks w (length ss) (joinSlots ss) ≡ ss
 chunks-join w [] h = refl
 chunks-join w (s ∷ ss) h =
     let k = both (wide w s) (every (wide w) ss) h in
     let e = eqb-true (length s) w (k .0) in
-    rw (take-at s (join ss) w e, drop-at s (join ss) w e, chunks-join w ss (k .1))
+    rw (take-at s (joinSlots ss) w e, drop-at s (joinSlots ss) w e, chunks-join w ss (k .1))
 
 pub chunk-at : (w k i : ℕ) (l : List ℕ) → i < k → getD (chunks w k l) i [] ≡ take w (drop (i * w) l)
 chunk-at w zero i l h = absurd (not-suc-le-zero h)
@@ -47,7 +47,7 @@ chunk-at w (suc k) (suc i) l h =
     let e : suc i * w ≡ w + i * w = suc-mul i w ∙ omega arith in
     rw (chunk-at w k i (drop w l) (le-of-suc-le-suc h), drop-drop, e)
 
-pub join-chunks : (w k : ℕ) (l : List ℕ) → length l ≡ k * w → join (chunks w k l) ≡ l
+pub join-chunks : (w k : ℕ) (l : List ℕ) → length l ≡ k * w → joinSlots (chunks w k l) ≡ l
 join-chunks w zero [] h = refl
 join-chunks w zero (x ∷ l) h = let e = h ∙ zero-mul w in absurd (omega arith)
 join-chunks w (suc k) l h =
@@ -55,7 +55,7 @@ join-chunks w (suc k) l h =
     rw (join-chunks w k (drop w l) (length-drop w l ∙ omega arith)) (take-append-drop w l)
 
 -- one slot written over
-pub join-set : (w k i : ℕ) (l q : List ℕ) → length l ≡ k * w → i < k → join (set (chunks w k l) i q) ≡ take (i * w) l ++ (q ++ drop (i * w + w) l)
+pub join-set : (w k i : ℕ) (l q : List ℕ) → length l ≡ k * w → i < k → joinSlots (set (chunks w k l) i q) ≡ take (i * w) l ++ (q ++ drop (i * w + w) l)
 join-set w zero i l q h k = absurd (not-suc-le-zero k)
 join-set w (suc k) zero l q h j =
     let e = h ∙ suc-mul k w in

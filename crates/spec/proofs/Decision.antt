@@ -18,7 +18,7 @@ use Rattle.spec.specs.Demands.{Replaceable}
 use Rattle.spec.proofs.Split.{split, splitO, clash, clashO, neither, not-false-is}
 use Rattle.spec.proofs.Slot.{kv-fits, rbp-fits}
 use Rattle.spec.proofs.Area.{Good}
-use Rattle.spec.proofs.Record.{sealed-length, sealed-tag-length}
+use Rattle.spec.proofs.Record.{Sealable, sealed-length, sealed-tag-length}
 use Rattle.spec.proofs.Status.{passed}
 
 -- what is asked of what the name has: of a record on the card, or of none
@@ -91,17 +91,23 @@ decided name flags value b kvSpace rbpSpace h =
       rbp-room = λ e. room-of (b .tag) rbpSpace (rw e at (k .1));
     }
 
+pub decided-sealable : (name : Name) (flags : ℕ) (iv value : List ℕ) (b : Binding) (kvSpace rbpSpace : Bool) → Decided name flags value b kvSpace rbpSpace → length iv ≡ 8
+    → Sealable revision1 flags iv value
+decided-sealable name flags iv value b kvSpace rbpSpace d i = record { revision-small = lit< tt; flags-valid = d .flags-valid; iv-sized = i; value-sized = d .value-sized }
+
 pub decided-ok : (name : Name) (flags : ℕ) (value : List ℕ) (b : Binding) (kvSpace rbpSpace : Bool) → Decided name flags value b kvSpace rbpSpace
     → setDecision name flags value b kvSpace rbpSpace ≡ ok
 unfolding setDecision refuseIf
 decided-ok name flags value b kvSpace rbpSpace d =
     rw (d .name-valid, d .flags-valid, le-leb (length value) maxDataSize (d .value-sized), held-ok flags (b .stored) (b .tag) _ (d .held), lacks-none flags b kvSpace rbpSpace (d .kv-room) (d .rbp-room))
 
-module _ (key name : List ℕ) (flags : ℕ) (iv value : List ℕ) (v : validName name ≡ true) (f : validFlags flags ≡ true) (i : length iv ≡ 8) (z : length value ≤ maxDataSize) where
+-- the record that is then sealed, and its tag, may be written
+module _ (key name : List ℕ) (flags : ℕ) (iv value : List ℕ) (v : validName name ≡ true) (ready : Sealable revision1 flags iv value) where
   pub sealed-kv-good : Good kvFormat name (sealRecord revision1 key name flags iv value)
   sealed-kv-good =
-      let e = sealed-length revision1 key name flags iv value (lit< tt) f i z in
+      let e = sealed-length revision1 key name flags iv value ready in
+      let z = ready .value-sized in
       record { name = v; payload = kv-fits _ (omega arith) }
 
   pub sealed-rbp-good : Good rbpFormat name (tagOf (sealRecord revision1 key name flags iv value))
-  sealed-rbp-good = record { name = v; payload = rbp-fits _ (sealed-tag-length revision1 key name flags iv value (lit< tt) f i z) }
+  sealed-rbp-good = record { name = v; payload = rbp-fits _ (sealed-tag-length revision1 key name flags iv value ready) }

@@ -6,7 +6,7 @@ use mathlib.Core.Option.{Option, none, some}
 use Prim.Native.Nat.{ℕ}
 use Rattle.spec.specs.Status.{isListed}
 use Rattle.spec.specs.Binding.{Effect, setHeld, setDecision, setEffect, getHeld, getDecision, removeHeld, removeDecision, removeEffect}
-use Rattle.spec.specs.Calls.{written, bindingOf, setStatus, set, getStatus, get, getInfo, removeStatus, remove, reset, iteratorStatus, iteratorNext}
+use Rattle.spec.specs.Calls.{written, bindingOf, setStatus, storeSet, getStatus, storeGet, storeGetInfo, removeStatus, storeRemove, storeReset, iteratorStatus, storeIteratorNext}
 use Rattle.spec.specs.Demands.{WrittenWell, Demand1}
 use Rattle.spec.proofs.Status.{refuse-listed, guard-listed, on-refused}
 
@@ -49,9 +49,9 @@ listed-iterator kv rbp prefix start nameBuf = guard-listed _ _ _ (refuse-listed 
 written-well : (status : ℕ) (kv rbp name : List ℕ) (effect : Effect) → isListed status ≡ true → WrittenWell kv rbp (written status kv rbp name effect)
 written-well status kv rbp name effect l = record { listed = l; kv-kept = on-refused status _ kv; rbp-kept = on-refused status _ rbp }
 
-pub demand1 : Demand1
-unfolding set get getInfo remove reset iteratorNext isListed
-demand1 = record {
+pub demand1-holds : Demand1
+unfolding storeSet storeGet storeGetInfo storeRemove storeReset storeIteratorNext isListed
+demand1-holds = record {
   of-set = λ kv rbp key name flags iv value. written-well _ kv rbp name (setEffect key name flags iv value) (listed-set kv rbp key name flags iv value);
   of-get = λ kv rbp key name offset output.
       let l = listed-get kv rbp key name offset in

@@ -21,7 +21,7 @@ use Rattle.spec.proofs.Slot.{FormatLaws, kv-laws, rbp-laws}
 use Rattle.spec.proofs.Area.{editOption, Sound, GoodEdit, Roomed, edit-sound, edit-length, lookup-edit, lookup-edit-other}
 use Rattle.spec.proofs.Status.{guard-passed, on-ok, on-refused}
 use Rattle.spec.proofs.Get.{undamaged-of}
-use Rattle.spec.proofs.Decision.{decided, sealed-kv-good, sealed-rbp-good}
+use Rattle.spec.proofs.Decision.{decided, decided-sealable, sealed-kv-good, sealed-rbp-good}
 use Rattle.spec.proofs.Request.{requestOf, storeStatus, store-run}
 
 -- a status is 0 or not
@@ -54,9 +54,9 @@ effect-good : (c : Call) (b : Binding) (kvSpace rbpSpace : Bool) → requestOf c
 unfolding setEffect removeEffect
 effect-good (setCall key name flags iv value) b kvSpace rbpSpace l d =
     let a = decided name flags value b kvSpace rbpSpace d in
-    let i = eqb-true (length iv) 8 (both (keySized key) (ivSized iv) l .1) in (
-      sealed-kv-good key name flags iv value (a .name-valid) (a .flags-valid) i (a .value-sized),
-      split (requireReplayProtection flags) (λ e. rw e (sealed-rbp-good key name flags iv value (a .name-valid) (a .flags-valid) i (a .value-sized))) (λ e. rw e tt),
+    let r = decided-sealable name flags iv value b kvSpace rbpSpace a (eqb-true (length iv) 8 (both (keySized key) (ivSized iv) l .1)) in (
+      sealed-kv-good key name flags iv value (a .name-valid) r,
+      split (requireReplayProtection flags) (λ e. rw e (sealed-rbp-good key name flags iv value (a .name-valid) r)) (λ e. rw e tt),
     )
 effect-good (getCall key name offset output) b kvSpace rbpSpace l d = (tt, tt)
 effect-good (getInfoCall key name) b kvSpace rbpSpace l d = (tt, tt)

@@ -17,7 +17,7 @@ use Rattle.spec.specs.Name.{validName}
 use Rattle.spec.specs.Record.{requireIntegrity, requireReplayProtection, revision1, dataSizeOf, flagsOf, metadataOf, storedDataOf, tagOf, recordValid, encKey, authKey, crypt, recordCmac, macOk, plaintext}
 use Rattle.spec.specs.Area.{kvFormat, rbpFormat, sized, intact, lookup}
 use Rattle.spec.specs.Binding.{tagMatches, getHeld, getDecision, readCount, readOutput}
-use Rattle.spec.specs.Calls.{keySized, areasSized, areasIntact, guarded, getStatus, get, getInfo}
+use Rattle.spec.specs.Calls.{keySized, areasSized, areasIntact, guarded, getStatus, storeGet, storeGetInfo}
 use Rattle.spec.specs.Demands.{Undamaged, Readable, Reads, GetExact, InfoExact}
 use Rattle.spec.proofs.Split.{splitO, clash, both, not-false-is}
 use Rattle.spec.proofs.Bytes.{bytesEq-eq, eq-bytesEq}
@@ -116,31 +116,31 @@ module _ (kv rbp key name : List ℕ) (offset : ℕ) where
       (served-held (h .r) s)
 
   module _ (output : List ℕ) (h : Readable kv rbp key name offset) where
-    pub given-status : get kv rbp key name offset output .status ≡ ok
-    unfolding get
+    pub given-status : storeGet kv rbp key name offset output .status ≡ ok
+    unfolding storeGet
     given-status = readable-accepted h
 
-    given-count : get kv rbp key name offset output .count ≡ readCount offset output (h .r)
-    unfolding get
+    given-count : storeGet kv rbp key name offset output .count ≡ readCount offset output (h .r)
+    unfolding storeGet
     given-count = on-ok _ _ 0 (readable-accepted h) ∙ rw (h .found)
 
-    given-output : get kv rbp key name offset output .output ≡ readOutput key name offset output (h .r)
-    unfolding get
+    given-output : storeGet kv rbp key name offset output .output ≡ readOutput key name offset output (h .r)
+    unfolding storeGet
     given-output = on-ok _ _ output (readable-accepted h) ∙ rw (h .found)
 
-    given : Reads key name offset output (h .r) (get kv rbp key name offset output)
+    given : Reads key name offset output (h .r) (storeGet kv rbp key name offset output)
     unfolding readCount readOutput plaintext crypt encKey
     given = record { count = given-count; bytes = rw given-count given-output }
 
 pub get-exact : GetExact
-unfolding get
+unfolding storeGet
 get-exact = record {
   condition = λ kv rbp key name offset output. (accepted-readable kv rbp key name offset, readable-accepted kv rbp key name offset);
   gives = λ kv rbp key name offset output h. given kv rbp key name offset output h;
 }
 
 pub info-exact : InfoExact
-unfolding getInfo
+unfolding storeGetInfo
 info-exact = record {
   condition = λ kv rbp key name. (accepted-readable kv rbp key name 0, readable-accepted kv rbp key name 0);
   size = λ kv rbp key name h. on-ok _ _ 0 (readable-accepted kv rbp key name 0 h) ∙ rw (h .found);

@@ -8,7 +8,8 @@ use Rattle.spec.specs.Bytes.{every, bytesEq, zeros}
 use Rattle.spec.specs.Status.{refuseIf, onOk}
 use Rattle.spec.specs.Name.{Name, validNameByte, validName}
 use Rattle.spec.specs.Record.{validFlags, metadata, recordValid, sealedIv, sealedData, sealedTag, sealRecord, plaintext}
-use Rattle.spec.specs.Area.{member, slotFree, slotUsed, slotValid, slotHolder, sized, intact}
+use Rattle.spec.specs.Slots.{member}
+use Rattle.spec.specs.Area.{slotFree, slotUsed, slotValid, slotHolder, sized, intact}
 use Rattle.spec.specs.Binding.{setHeld, lacksSpace, setDecision, setEffect, getHeld, getDecision, readCount, readOutput, removeHeld, removeDecision}
 use Rattle.spec.specs.Calls.{guarded}
 use Rattle.spec.specs.Interleaving.{left, right, Tagged, by, answers}

@@ -10,7 +10,8 @@ use Rattle.spec.specs.Bytes.{bytesEq}
 use Rattle.spec.specs.Status.{ok, refuseIf, onOk}
 use Rattle.spec.specs.Name.{Name, validName}
 use Rattle.spec.specs.Record.{requireReplayProtection, flagsOf}
-use Rattle.spec.specs.Area.{Format, kvFormat, rbpFormat, slotHolder, slotCount, slots, names, dedup, hasSpace, Edit, editArea}
+use Rattle.spec.specs.Slots.{dedup}
+use Rattle.spec.specs.Area.{Format, kvFormat, rbpFormat, slotHolder, slotCount, slots, names, hasSpace, Edit, editArea}
 use Rattle.spec.specs.Binding.{Binding, recordOf, setDecision, setEffect, removeEffect}
 use Rattle.spec.specs.Calls.{guarded, bindingOf}
 use Rattle.spec.specs.Interleaving.{Side, left, right, isSide, Tagged, by, part, Interleaving, answers, final, sharedStep}

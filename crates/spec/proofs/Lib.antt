@@ -12,6 +12,8 @@ pub mod Demand1
 pub mod Get
 pub mod Decision
 pub mod Set
+pub mod Remove
+pub mod Iterator
 pub mod Interleaving
 pub mod Model
 pub mod Request
@@ -19,3 +21,4 @@ pub mod Effect
 pub mod Isolation
 pub mod Instance
 pub mod Edges
+pub mod Theorems

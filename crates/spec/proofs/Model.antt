@@ -7,7 +7,8 @@ use mathlib.Core.Option.{none}
 use Prim.Native.Nat.{ℕ}
 use Rattle.spec.specs.Bytes.{bytesEq}
 use Rattle.spec.specs.Name.{Name}
-use Rattle.spec.specs.Area.{Format, kvFormat, rbpFormat, find, mapOption, slotPayload, slotHolder, holds, slots, lookup, Edit, keep, write, clear}
+use Rattle.spec.specs.Slots.{findFirst, mapOption}
+use Rattle.spec.specs.Area.{Format, kvFormat, rbpFormat, slotPayload, slotHolder, holds, slots, lookup, Edit, keep, write, clear}
 use Rattle.spec.specs.Calls.{bindingOf}
 use Rattle.spec.specs.Model.{Item, tableLookup, tableRemove, tableEdit, itemsOf, modelOf, modelBinding}
 use Rattle.spec.proofs.Split.{split, splitO}
@@ -34,7 +35,7 @@ table-other t m n keep h = refl
 table-other t m n (write p) h = rw (bytesEq-not m n h) (removed-other t m n h)
 table-other t m n clear h = removed-other t m n h
 
-items-lookup : (F : Format) (ss : List (List ℕ)) (n : Name) → tableLookup (itemsOf F ss) n ≡ mapOption (slotPayload F) (find (holds F n) ss)
+items-lookup : (F : Format) (ss : List (List ℕ)) (n : Name) → tableLookup (itemsOf F ss) n ≡ mapOption (slotPayload F) (findFirst (holds F n) ss)
 items-lookup F [] n = refl
 items-lookup F (s ∷ ss) n = splitO (slotHolder F s) (λ e. simp (e, items-lookup F ss n))
     (λ m e. split (bytesEq n m) (λ k. simp (e, k)) (λ k. simp (e, k, items-lookup F ss n)))

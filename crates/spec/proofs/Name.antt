@@ -1,16 +1,60 @@
--- Laws of names. Nothing else opens the definition of a valid byte, but what computes.
-use mathlib.Core.Path.{_≡_}
-use mathlib.Core.Bool.{true, _&&_}
-use Prim.Native.Nat.{_≤_}
-use borrow.Author.Tests.{leb-true}
-use lib.Dec.{leb}
-use lib.ListN.{length}
+-- Laws of names. Nothing but what computes opens the definition of a valid byte elsewhere.
+use mathlib.Core.Path.{_≡_, refl, _∙_}
+use mathlib.Core.Bool.{true, false, _&&_}
+use mathlib.Core.List.{List, [], _∷_, _++_}
+use Prim.Native.Nat.{ℕ, zero, suc, _+_, _/_, _%_, _≤_, _<_}
+use native.Mathlib.Omega.{arith}
+use borrow.Author.Tests.{leb-true, le-leb, ltb-true, ltb-false}
+use lib.Dec.{leb, ltb}
+use lib.ListN.{length, length-append}
 use Rattle.spec.specs.Bytes.{every}
-use Rattle.spec.specs.Name.{Name, validNameByte, validName}
-use Rattle.spec.proofs.Split.{both}
+use Rattle.spec.specs.Name.{Name, validNameByte, validName, hexDigit, hexDigits, keyName}
+use Rattle.spec.proofs.Split.{split, both}
+
+-- the fill of a name, and the first byte of a record's metadata, are not bytes of a name
+pub zero-not-valid : validNameByte 0 ≡ false
+unfolding validNameByte
+zero-not-valid = refl
+
+pub metadata-size-not-valid : validNameByte 0x14 ≡ false
+unfolding validNameByte
+metadata-size-not-valid = refl
+
+pub record ValidName (n : Name) : Type 0 where
+  pub not-empty : 1 ≤ length n
+  pub short : length n ≤ 64
+  pub bytes : every validNameByte n ≡ true
+
+pub valid-name : (n : Name) → validName n ≡ true → ValidName n
+unfolding validName
+valid-name n h =
+    let a = both (leb 1 (length n)) (leb (length n) 64 && every validNameByte n) h in
+    let b = both (leb (length n) 64) (every validNameByte n) (a .1) in
+    record { not-empty = leb-true 1 (length n) (a .0); short = leb-true (length n) 64 (b .0); bytes = b .1 }
 
 pub valid-length : (n : Name) → validName n ≡ true → length n ≤ 64
-unfolding validName
-valid-length n h =
-    let k = both (leb 1 (length n)) (leb (length n) 64 && every validNameByte n) h in
-    leb-true (length n) 64 (both (leb (length n) 64) (every validNameByte n) (k .1) .0)
+valid-length n h = valid-name n h .short
+
+-- ---- the name of a key identifier
+
+every-append : (a b : List ℕ) → every validNameByte a ≡ true → every validNameByte b ≡ true → every validNameByte (a ++ b) ≡ true
+every-append [] b h k = k
+every-append (x ∷ a) b h k = let p = both (validNameByte x) (every validNameByte a) h in rw (p .0, every-append a b (p .1) k)
+
+digit-valid : (d : ℕ) → d < 16 → validNameByte (hexDigit d) ≡ true
+unfolding validNameByte
+digit-valid d h = split (ltb d 10)
+    (λ e. let k = ltb-true d 10 e in rw (e, le-leb 0x21 (0x30 + d) (omega arith), le-leb (0x30 + d) 0x7e (omega arith)))
+    (λ e. let k = ltb-false d 10 e in rw (e, le-leb 0x21 (0x57 + d) (omega arith), le-leb (0x57 + d) 0x7e (omega arith)))
+
+digits-valid : (k n : ℕ) → every validNameByte (hexDigits k n) ≡ true
+digits-valid zero n = refl
+digits-valid (suc k) n = every-append (hexDigits k (n / 16)) (hexDigit (n % 16) ∷ []) (digits-valid k (n / 16)) (rw (digit-valid (n % 16) (omega arith)))
+
+digits-length : (k n : ℕ) → length (hexDigits k n) ≡ k
+digits-length zero n = refl
+digits-length (suc k) n = length-append (hexDigits k (n / 16)) (hexDigit (n % 16) ∷ []) ∙ rw (digits-length k (n / 16)) (omega arith)
+
+pub key-name-valid : (id : ℕ) → 1 ≤ id → id ≤ 0xfffeffff → validName (keyName id) ≡ true
+unfolding keyName validName
+key-name-valid id h k = rw (le-leb 1 id h, le-leb id 0xfffeffff k, digits-length 16 id) (digits-valid 16 id)

@@ -4,7 +4,7 @@ use mathlib.Core.Bool.{true, cond, not, _||_}
 use mathlib.Core.List.{List, _++_, append-assoc}
 use Prim.Native.Nat.{ℕ, _+_, _-_, _≤_, _<_}
 use native.Mathlib.Omega.{arith}
-use borrow.Author.Tests.{ltb-true, eq-eqb, le-leb}
+use borrow.Author.Tests.{eqb-true, leb-true, ltb-true, eq-eqb, le-leb}
 use lib.Dec.{ltb}
 use lib.ListN.{length, length-append}
 use lib.Seq.{take-at, drop-at, take-length}
@@ -20,6 +20,30 @@ pub valid-flags-small : (flags : ℕ) → validFlags flags ≡ true → flags < 
 unfolding validFlags
 valid-flags-small flags h = ltb-true flags 16 (both (ltb flags 16) (not (requireReplayProtection flags) || requireIntegrity flags) h .0)
 
+-- what a valid record says of itself
+pub record ValidRecord (revision : ℕ) (r : List ℕ) : Type 0 where
+  pub metadata-size : metadataSizeOf r ≡ 20
+  pub of-revision : revisionOf r ≡ revision
+  pub flags : validFlags (flagsOf r) ≡ true
+  pub data-size : dataSizeOf r ≤ maxDataSize
+  pub record-length : length r ≡ dataSizeOf r + 36
+
+pub valid-record : (revision : ℕ) (r : List ℕ) → recordValid revision r ≡ true → ValidRecord revision r
+unfolding recordValid
+valid-record revision r h =
+    let a = both _ _ h in
+    let b = both _ _ (a .1) in
+    let c = both _ _ (b .1) in
+    let d = both _ _ (c .1) in
+    let e = both _ _ (d .1) in
+    record {
+      metadata-size = eqb-true (metadataSizeOf r) 20 (a .0);
+      of-revision = eqb-true (revisionOf r) revision (b .0);
+      flags = c .0;
+      data-size = leb-true (dataSizeOf r) maxDataSize (d .0);
+      record-length = eqb-true (length r) (dataSizeOf r + 36) (e .0);
+    }
+
 pub crypt-twice : (key name iv m : List ℕ) → crypt key name iv (crypt key name iv m) ≡ m
 unfolding crypt ctr
 crypt-twice key name iv m = ctr-twice (encKey key name) iv 0 m
@@ -32,8 +56,14 @@ pub recordCmac-length : (key name meta stored : List ℕ) → length (recordCmac
 unfolding recordCmac
 recordCmac-length key name meta stored = cmac-length _ _
 
-module _ (revision : ℕ) (key name : List ℕ) (flags : ℕ) (iv value : List ℕ) (small : revision < 65536) (good : validFlags flags ≡ true)
-    (iv-sized : length iv ≡ 8) (value-sized : length value ≤ maxDataSize) where
+-- what a set has tested of its arguments before it seals them
+pub record Sealable (revision flags : ℕ) (iv value : List ℕ) : Type 0 where
+  pub revision-small : revision < 65536
+  pub flags-valid : validFlags flags ≡ true
+  pub iv-sized : length iv ≡ 8
+  pub value-sized : length value ≤ maxDataSize
+
+module _ (revision : ℕ) (key name : List ℕ) (flags : ℕ) (iv value : List ℕ) (ready : Sealable revision flags iv value) where
   abbrev meta : List ℕ
   meta = metadata revision (length value) flags (sealedIv flags iv)
 
@@ -48,7 +78,7 @@ module _ (revision : ℕ) (key name : List ℕ) (flags : ℕ) (iv value : List �
 
   iv-length : length (sealedIv flags iv) ≡ 8
   unfolding sealedIv
-  iv-length = split (requireConfidentiality flags) (λ e. rw e iv-sized) (λ e. rw e)
+  iv-length = split (requireConfidentiality flags) (λ e. rw e (ready .iv-sized)) (λ e. rw e)
 
   meta-length : length meta ≡ 20
   unfolding metadata
@@ -90,7 +120,7 @@ module _ (revision : ℕ) (key name : List ℕ) (flags : ℕ) (iv value : List �
 
   pub sealed-flags : flagsOf r ≡ flags
   unfolding sealRecord metadata
-  sealed-flags = let h = valid-flags-small flags good in le-value 4 flags (omega arith)
+  sealed-flags = let h = valid-flags-small flags (ready .flags-valid) in le-value 4 flags (omega arith)
 
   sealed-iv : ivOf r ≡ sealedIv flags iv
   unfolding sealRecord metadata
@@ -133,15 +163,15 @@ module _ (revision : ℕ) (key name : List ℕ) (flags : ℕ) (iv value : List �
         sealed-data-size,
         sealed-length,
         eq-eqb revision revision refl,
-        good,
-        le-leb (length value) maxDataSize value-sized,
+        ready .flags-valid,
+        le-leb (length value) maxDataSize (ready .value-sized),
         eq-eqb (length value + 36) (length value + 36) refl,
         iv-zero,
       ) tag-zero
 
   pub sealed-mac : requireIntegrity flags ≡ true → macOk key name r ≡ true
   unfolding macOk sealedTag
-  sealed-mac h = rw (sealed-tag, sealed-metadata, sealed-stored, h) (bytesEq-refl (recordCmac key name meta stored))
+  sealed-mac h = rw (sealed-tag, sealed-metadata, sealed-stored, h, bytesEq-refl)
 
   opened : cond (requireConfidentiality flags) (crypt key name (sealedIv flags iv) stored) stored ≡ value
   unfolding sealedIv sealedData

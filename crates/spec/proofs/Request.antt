@@ -8,7 +8,7 @@ use Rattle.spec.specs.Name.{Name}
 use Rattle.spec.specs.Record.{dataSizeOf, flagsOf}
 use Rattle.spec.specs.Area.{kvFormat, rbpFormat, hasSpace, editArea}
 use Rattle.spec.specs.Binding.{Binding, Effect, noEffect, recordOf, setDecision, setEffect, getDecision, readCount, readOutput, removeDecision, removeEffect}
-use Rattle.spec.specs.Calls.{keySized, ivSized, areasSized, areasIntact, guarded, bindingOf, setStatus, set, getStatus, get, getInfo, removeStatus, remove}
+use Rattle.spec.specs.Calls.{keySized, ivSized, areasSized, areasIntact, guarded, bindingOf, setStatus, storeSet, getStatus, storeGet, storeGetInfo, removeStatus, storeRemove}
 use Rattle.spec.specs.Interleaving.{Outcome}
 use Rattle.spec.specs.Model.{Call, setCall, getCall, getInfoCall, removeCall, callName, Answer, setAnswer, getAnswer, getInfoAnswer, removeAnswer, Model, modelBinding, modelEdit, modelStep}
 use Rattle.spec.specs.Demands.{Areas, storeStep}
@@ -81,7 +81,7 @@ and-true true = refl
 and-true false = refl
 
 pub store-run : (s : Areas) (c : Call) → storeStep s c ≡ storeRun s (callName c) (requestOf c)
-unfolding set setStatus get getStatus getInfo remove removeStatus
+unfolding storeSet setStatus storeGet getStatus storeGetInfo storeRemove removeStatus
 store-run s (setCall key name flags iv value) = refl
 store-run s (getCall key name offset output) =
     let q = storeStatus s name (requestOf (getCall key name offset output)) in

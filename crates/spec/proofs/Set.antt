@@ -1,40 +1,41 @@
 -- Demand 2, the exact condition for a set's 0, the round trip, and what an accepted set stores.
-use mathlib.Core.Path.{_≡_, refl, sym, _∙_}
+use mathlib.Core.Path.{_≡_, refl, _∙_}
 use mathlib.Core.Bool.{true, false, cond, not, _&&_, _||_}
 use mathlib.Core.List.{List, [], _++_, append-nil}
 use Prim.Native.Nat.{ℕ, _-_, _≤_, _<_, zero-le, min}
 use native.Mathlib.Omega.{arith}
-use borrow.Author.Tests.{eqb-true, eq-eqb, ltb-true, lt-ltb}
-use lib.Dec.{lit<, ltb}
+use borrow.Author.Tests.{eqb-true, eq-eqb, lt-ltb}
+use lib.Dec.{ltb}
 use lib.ListN.{length, drop}
 use lib.Seq.{take-length}
 use Rattle.spec.specs.Status.{ok, refuseIf}
 use Rattle.spec.specs.Record.{requireIntegrity, requireReplayProtection, validFlags, revision1, metadata, dataSizeOf, tagOf, encKey, authKey, crypt, recordCmac, sealedIv, sealedData, sealedTag, sealRecord, plaintext}
-use Rattle.spec.specs.Area.{Format, kvFormat, rbpFormat, slotFree, slotHolder, makeSlot, slotCount, slots, hasSpace, target, first, insert, keep, write, editArea}
+use Rattle.spec.specs.Slots.{firstIndex}
+use Rattle.spec.specs.Area.{Format, kvFormat, rbpFormat, slotFree, slotHolder, makeSlot, slotCount, slots, hasSpace, target, insertSlot, keep, write, editArea}
 use Rattle.spec.specs.Binding.{setEffect}
-use Rattle.spec.specs.Calls.{Got, keySized, ivSized, areasSized, guarded, bindingOf, setStatus, set, get}
-use Rattle.spec.specs.Demands.{Readable, FreeSlot, Settable, SetExact, RoundTrip, metadataBytes, storedBytes, tagBytes, slotBytes, rbpSlotBytes, Stored, Stores, SetStores, Demand2}
+use Rattle.spec.specs.Calls.{Got, keySized, ivSized, areasSized, guarded, bindingOf, setStatus, storeSet, storeGet}
+use Rattle.spec.specs.Demands.{Readable, FreeSlot, Settable, SetExact, RoundTrip, metadataBytes, storedBytes, tagBytes, slotBytes, rbpSlotBytes, Stored, Stores, SetStores}
 use Rattle.spec.proofs.Split.{split, both}
 use Rattle.spec.proofs.Slots.{held-at}
 use Rattle.spec.proofs.Chunks.{length-chunks}
 use Rattle.spec.proofs.Slot.{kv-laws, rbp-laws}
 use Rattle.spec.proofs.Area.{Sound, sized-length, Good, HasRoom, target-any, insert-sound, lookup-insert}
-use Rattle.spec.proofs.Decision.{Decided, decided, decided-ok, sealed-kv-good, sealed-rbp-good}
-use Rattle.spec.proofs.First.{any-first, any-at, first-passes, first-lowest, splice}
-use Rattle.spec.proofs.Record.{valid-flags-small, sealed-length, sealed-data-size, sealed-flags, sealed-tag, sealed-tag-length, sealed-valid, sealed-mac, sealed-plaintext}
+use Rattle.spec.proofs.Decision.{Decided, decided, decided-sealable, decided-ok, sealed-kv-good, sealed-rbp-good}
+use Rattle.spec.proofs.First.{first-in-range, any-at, first-passes, first-lowest, splice}
+use Rattle.spec.proofs.Record.{valid-flags-small, Sealable, sealed-length, sealed-data-size, sealed-flags, sealed-tag, sealed-tag-length, sealed-valid, sealed-mac, sealed-plaintext}
 use Rattle.spec.proofs.Status.{guard-passed, on-ok}
-use Rattle.spec.proofs.Get.{undamaged-of, mac-eq, get-exact, info-exact, given-status}
+use Rattle.spec.proofs.Get.{undamaged-of, mac-eq, get-exact, given-status}
 
 -- ---- an insert, in bytes
 
 module _ (F : Format) (area n p : List ℕ) (s : Sound F area) (h : HasRoom F area n) where
-  stored-in : Stored F area n (makeSlot F n p) (insert F area n p)
-  unfolding insert
+  stored-in : Stored F area n (makeSlot F n p) (insertSlot F area n p)
+  unfolding insertSlot
   stored-in =
       let t = target-any F area n h in
       record {
-        i = first (target F area n) (slots F area);
-        in-range = rw (length-chunks (F .slotSize) (slotCount F area) area) at (ltb-true (first (target F area n) (slots F area)) (length (slots F area)) (sym (any-first (target F area n) (slots F area)) ∙ t));
+        i = firstIndex (target F area n) (slots F area);
+        in-range = first-in-range F (target F area n) area t;
         own = λ q e. rw e (held-at (slotHolder F) n _ (rw e at (first-passes (target F area n) (slots F area) [] t)));
         free = λ e. rw e (rw e at (first-passes (target F area n) (slots F area) [] t));
         lowest = λ e j k. rw e at (first-lowest (target F area n) (slots F area) [] j k);
@@ -71,41 +72,41 @@ module _ (kv rbp key name : List ℕ) (flags : ℕ) (iv value : List ℕ) (h : s
         choice = decided name flags value _ _ _ (g .2);
       }
 
-  small : revision1 < 65536
-  small = lit< tt
+  ready : Sealable revision1 flags iv value
+  ready = decided-sealable name flags iv value _ _ _ (accepted .choice) (accepted .iv-sized)
 
   kv-good : Good kvFormat name sealed
-  kv-good = let a = accepted in sealed-kv-good key name flags iv value (a .choice .name-valid) (a .choice .flags-valid) (a .iv-sized) (a .choice .value-sized)
+  kv-good = sealed-kv-good key name flags iv value (accepted .choice .name-valid) ready
 
   rbp-good : Good rbpFormat name (tagOf sealed)
-  rbp-good = let a = accepted in sealed-rbp-good key name flags iv value (a .choice .name-valid) (a .choice .flags-valid) (a .iv-sized) (a .choice .value-sized)
+  rbp-good = sealed-rbp-good key name flags iv value (accepted .choice .name-valid) ready
 
   -- the areas after it
-  kv-after : set kv rbp key name flags iv value .kv ≡ insert kvFormat kv name sealed
-  unfolding set setEffect
+  kv-after : storeSet kv rbp key name flags iv value .kv ≡ insertSlot kvFormat kv name sealed
+  unfolding storeSet setEffect
   kv-after = on-ok _ _ kv h
 
-  rbp-after : set kv rbp key name flags iv value .rbp ≡ editArea rbpFormat rbp name (cond (requireReplayProtection flags) (write (tagOf sealed)) keep)
-  unfolding set setEffect
+  rbp-after : storeSet kv rbp key name flags iv value .rbp ≡ editArea rbpFormat rbp name (cond (requireReplayProtection flags) (write (tagOf sealed)) keep)
+  unfolding storeSet setEffect
   rbp-after = on-ok _ _ rbp h
 
-  rbp-written : requireReplayProtection flags ≡ true → set kv rbp key name flags iv value .rbp ≡ insert rbpFormat rbp name (tagOf sealed)
+  rbp-written : requireReplayProtection flags ≡ true → storeSet kv rbp key name flags iv value .rbp ≡ insertSlot rbpFormat rbp name (tagOf sealed)
   rbp-written e = rbp-after ∙ rw e
 
-  rbp-unchanged : requireReplayProtection flags ≡ false → set kv rbp key name flags iv value .rbp ≡ rbp
+  rbp-unchanged : requireReplayProtection flags ≡ false → storeSet kv rbp key name flags iv value .rbp ≡ rbp
   rbp-unchanged e = rbp-after ∙ rw e
 
-  rbp-sound-after : Sound rbpFormat (set kv rbp key name flags iv value .rbp)
+  rbp-sound-after : Sound rbpFormat (storeSet kv rbp key name flags iv value .rbp)
   rbp-sound-after = split (requireReplayProtection flags)
       (λ e. rw (rbp-written e) (insert-sound rbpFormat rbp-laws rbp name (tagOf sealed) (accepted .rbp-sound) rbp-good))
       (λ e. rw (rbp-unchanged e) (accepted .rbp-sound))
 
   -- ---- the round trip
 
-  readable : Readable (set kv rbp key name flags iv value .kv) (set kv rbp key name flags iv value .rbp) key name 0
+  readable : Readable (storeSet kv rbp key name flags iv value .kv) (storeSet kv rbp key name flags iv value .rbp) key name 0
   readable =
       let a = accepted in
-      let f = sealed-flags revision1 key name flags iv value small (a .choice .flags-valid) (a .iv-sized) (a .choice .value-sized) in
+      let f = sealed-flags revision1 key name flags iv value ready in
       let s = insert-sound kvFormat kv-laws kv name sealed (a .kv-sound) kv-good in
       record {
         undamaged = record { kv-sized = rw kv-after (s .size); rbp-sized = rbp-sound-after .size; kv-intact = rw kv-after (s .good); rbp-intact = rbp-sound-after .good };
@@ -113,20 +114,19 @@ module _ (kv rbp key name : List ℕ) (flags : ℕ) (iv value : List ℕ) (h : s
         name-valid = a .choice .name-valid;
         r = sealed;
         found = rw kv-after (lookup-insert kvFormat kv-laws kv name sealed (a .kv-sound) kv-good (a .choice .kv-room));
-        valid = sealed-valid revision1 key name flags iv value small (a .choice .flags-valid) (a .iv-sized) (a .choice .value-sized);
-        authentic = λ e. mac-eq key name sealed (sealed-mac revision1 key name flags iv value small (a .choice .flags-valid) (a .iv-sized) (a .choice .value-sized) (rw f at e));
+        valid = sealed-valid revision1 key name flags iv value ready;
+        authentic = λ e. mac-eq key name sealed (sealed-mac revision1 key name flags iv value ready (rw f at e));
         fresh = λ e. rw (rbp-written (rw f at e)) (lookup-insert rbpFormat rbp-laws rbp name (tagOf sealed) (a .rbp-sound) rbp-good (a .choice .rbp-room (rw f at e)));
         in-range = zero-le;
       }
 
   read-back : (output : List ℕ) → length value ≤ length output
-      → get (set kv rbp key name flags iv value .kv) (set kv rbp key name flags iv value .rbp) key name 0 output
+      → storeGet (storeSet kv rbp key name flags iv value .kv) (storeSet kv rbp key name flags iv value .rbp) key name 0 output
       ≡ record { status = ok; count = length value; output = value ++ drop (length value) output }
   unfolding plaintext crypt encKey readable
   read-back output k =
-      let a = accepted in
-      let d = sealed-data-size revision1 key name flags iv value small (a .choice .flags-valid) (a .iv-sized) (a .choice .value-sized) in
-      let p = sealed-plaintext revision1 key name flags iv value small (a .choice .flags-valid) (a .iv-sized) (a .choice .value-sized) in
+      let d = sealed-data-size revision1 key name flags iv value ready in
+      let p = sealed-plaintext revision1 key name flags iv value ready in
       let g = get-exact .gives _ _ key name 0 output readable in
       let c : min (length output) (dataSizeOf sealed - 0) ≡ length value = rw d (omega arith) in
       let n = g .count ∙ c in
@@ -141,21 +141,19 @@ module _ (kv rbp key name : List ℕ) (flags : ℕ) (iv value : List ℕ) (h : s
   slot-bytes : makeSlot kvFormat name sealed ≡ slotBytes key name flags iv value
   unfolding makeSlot
   slot-bytes =
-      let a = accepted in
-      rw (sealed-length revision1 key name flags iv value small (a .choice .flags-valid) (a .iv-sized) (a .choice .value-sized), sealed-bytes)
+      rw (sealed-length revision1 key name flags iv value ready, sealed-bytes)
 
   tag-bytes : tagOf sealed ≡ tagBytes key name flags iv value
   unfolding metadata sealedIv sealedData sealedTag recordCmac authKey crypt encKey
-  tag-bytes = let a = accepted in sealed-tag revision1 key name flags iv value small (a .choice .flags-valid) (a .iv-sized) (a .choice .value-sized)
+  tag-bytes = sealed-tag revision1 key name flags iv value ready
 
   rbp-slot-bytes : makeSlot rbpFormat name (tagOf sealed) ≡ rbpSlotBytes key name flags iv value
   unfolding makeSlot
   rbp-slot-bytes =
-      let a = accepted in
-      let z = sealed-tag-length revision1 key name flags iv value small (a .choice .flags-valid) (a .iv-sized) (a .choice .value-sized) in
+      let z = sealed-tag-length revision1 key name flags iv value ready in
       rw (z, append-nil (tagOf sealed), tag-bytes)
 
-  stores : Stores kv rbp key name flags iv value (set kv rbp key name flags iv value)
+  stores : Stores kv rbp key name flags iv value (storeSet kv rbp key name flags iv value)
   stores =
       let a = accepted in
       record {
@@ -169,8 +167,8 @@ module _ (kv rbp key name : List ℕ) (flags : ℕ) (iv value : List ℕ) (h : s
 free-slot : (F : Format) (area : List ℕ) → hasSpace F area ≡ true → FreeSlot F area
 unfolding hasSpace
 free-slot F area h = record {
-  i = first slotFree (slots F area);
-  in-range = rw (length-chunks (F .slotSize) (slotCount F area) area) at (ltb-true (first slotFree (slots F area)) (length (slots F area)) (sym (any-first slotFree (slots F area)) ∙ h));
+  i = firstIndex slotFree (slots F area);
+  in-range = first-in-range F slotFree area h;
   free = first-passes slotFree (slots F area) [] h;
 }
 
@@ -218,17 +216,14 @@ settable-ok kv rbp key name flags iv value h =
     rw (h .undamaged .kv-sized, h .undamaged .rbp-sized, eq-eqb (length key) 16 (h .key-sized), eq-eqb (length iv) 8 (h .iv-sized), h .undamaged .kv-intact, h .undamaged .rbp-intact)
     (decided-ok name flags value _ _ _ d)
 
-set-exact : SetExact
-unfolding set
+pub set-exact : SetExact
+unfolding storeSet
 set-exact kv rbp key name flags iv value = (settable kv rbp key name flags iv value, settable-ok kv rbp key name flags iv value)
 
-round-trip : RoundTrip
-unfolding set
+pub round-trip : RoundTrip
+unfolding storeSet
 round-trip kv rbp key name flags iv value output h k = read-back kv rbp key name flags iv value h output k
 
-set-stores : SetStores
-unfolding set
+pub set-stores : SetStores
+unfolding storeSet
 set-stores kv rbp key name flags iv value h = stores kv rbp key name flags iv value h
-
-pub demand2 : Demand2
-demand2 = record { get-exact = get-exact; info-exact = info-exact; set-exact = set-exact; round-trip = round-trip; set-stores = set-stores }

@@ -1,17 +1,18 @@
 -- One slot: what a made slot holds, over the laws of a format, which both formats obey.
 use mathlib.Core.Path.{_≡_, refl, sym, ap, _∙_}
-use mathlib.Core.Bool.{true, false}
+use mathlib.Core.Bool.{true, false, _&&_}
 use mathlib.Core.List.{List, [], _∷_, _++_}
 use mathlib.Core.Option.{some}
 use Prim.Native.Nat.{ℕ, _+_, _-_, _≤_, _<_}
 use native.Mathlib.Omega.{arith}
-use borrow.Author.Tests.{le-leb, ne-eqb}
-use lib.Dec.{lit<}
+use borrow.Author.Tests.{eqb-true, leb-true, le-leb, ne-eqb}
+use lib.Dec.{eqb, lit<}
 use lib.ListN.{length, drop, length-append}
 use lib.Seq.{take-at, drop-at, drop-drop, drop-append-seam, take-append-seam}
-use Rattle.spec.specs.Bytes.{zeros, zeroFill}
+use Rattle.spec.specs.Bytes.{bytesEq, allZero, zeros, zeroFill}
 use Rattle.spec.specs.Name.{validName}
-use Rattle.spec.specs.Area.{Format, kvFormat, rbpFormat, stateByte, nameLength, slotFree, payloadSize, slotName, slotPayload, slotUsed, slotValid, slotHolder, makeSlot}
+use Rattle.spec.specs.Area.{Format, kvFormat, rbpFormat, stateByte, nameLength, slotFree, payloadSize, slotName, slotPayload, slotUsed, slotValid, slotHolder, makeSlot, holds}
+use Rattle.spec.proofs.Split.{split, both}
 use Rattle.spec.proofs.Bytes.{allZero-zeros, length-zeros, length-zeroFill, take-zeroFill, drop-zeroFill, le-value}
 use Rattle.spec.proofs.Name.{valid-length}
 
@@ -135,3 +136,44 @@ module _ (F : Format) (L : FormatLaws F) where
           take-at (zeros (64 - length n)) (zeroFill (payloadSize F) p) (64 - length n) (length-zeros (64 - length n)),
           allZero-zeros (64 - length n),
         ) (allZero-zeros (payloadSize F - length p))
+
+-- ---- what a used slot says of itself
+
+pub record UsedSlot (F : Format) (s : List ℕ) : Type 0 where
+  pub state : stateByte s ≡ 1
+  pub name-length : nameLength s ≤ 64
+  pub name : validName (slotName F s) ≡ true
+  pub payload-length : F .payloadLength s ≤ payloadSize F
+
+pub used-slot : (F : Format) (s : List ℕ) → slotUsed F s ≡ true → UsedSlot F s
+unfolding slotUsed
+used-slot F s h =
+    let a = both _ _ h in
+    let b = both _ _ (a .1) in
+    let c = both _ _ (b .1) in
+    let d = both _ _ (c .1) in
+    record {
+      state = eqb-true (stateByte s) 1 (a .0);
+      name-length = leb-true (nameLength s) 64 (b .0);
+      name = c .0;
+      payload-length = leb-true (F .payloadLength s) (payloadSize F) (d .0);
+    }
+
+free-state : (s : List ℕ) → slotFree s ≡ true → stateByte s ≡ 0
+unfolding slotFree
+free-state [] h = refl
+free-state (x ∷ s) h = eqb-true x 0 (both (eqb x 0) (allZero s) h .0)
+
+-- in a slot that is well shaped the state byte tells whether it is free
+pub valid-state : (F : Format) (s : List ℕ) → slotValid F s ≡ true → slotFree s ≡ eqb (stateByte s) 0
+unfolding slotValid
+valid-state F s h = split (slotFree s)
+    (λ e. rw (e, free-state s e))
+    (λ e. rw (e, used-slot F s (rw e at h) .state))
+
+-- .. and a name holds it when the state byte is 1 and the name is its own
+pub valid-holds : (F : Format) (n s : List ℕ) → slotValid F s ≡ true → holds F n s ≡ (eqb (stateByte s) 1 && bytesEq n (slotName F s))
+unfolding slotValid slotHolder
+valid-holds F n s h = split (slotFree s)
+    (λ e. rw (e, free-state s e))
+    (λ e. rw (e, used-slot F s (rw e at h) .state))

@@ -9,7 +9,7 @@ use native.Mathlib.Omega.{arith}
 use lib.ListN.{length}
 use Rattle.spec.specs.Bytes.{every, any, isSome, bytesEq}
 use Rattle.spec.specs.Name.{Name}
-use Rattle.spec.specs.Area.{replaceFirst, find, isName, member, distinct, consName, namesBy}
+use Rattle.spec.specs.Slots.{replaceFirst, findFirst, isName, member, distinct, consName, namesBy}
 use Rattle.spec.proofs.Split.{split, splitO, clash, clashO, both}
 use Rattle.spec.proofs.Bytes.{bytesEq-eq, bytesEq-refl}
 
@@ -24,12 +24,12 @@ module _ {S : Type 0} where
       let k = both (g s) (every g ss) h in
       split (t s) (λ e. simp (e, hq, k .1)) (λ e. simp (e, k .0, every-replaceFirst g t q ss hq (k .1)))
 
-  pub find-any : (t : S → Bool) (ss : List S) → isSome (find t ss) ≡ any t ss
+  pub find-any : (t : S → Bool) (ss : List S) → isSome (findFirst t ss) ≡ any t ss
   find-any t [] = refl
   find-any t (s ∷ ss) = split (t s) (λ e. simp e) (λ e. simp (e, find-any t ss))
 
   -- where the first does not pass, and the rest has none that does
-  pub find-none-cons : (t : S → Bool) (s : S) (ss : List S) → find t (s ∷ ss) ≡ none → (t s ≡ false) × (find t ss ≡ none)
+  pub find-none-cons : (t : S → Bool) (s : S) (ss : List S) → findFirst t (s ∷ ss) ≡ none → (t s ≡ false) × (findFirst t ss ≡ none)
   find-none-cons t s ss h = split (t s) (λ e. clashO (some s) (simp e at h) refl) (λ e. (e, simp e at h))
 
 -- a list without one of its elements
@@ -66,24 +66,24 @@ module _ {S : Type 0} (at : S → Option Name) where
 
   -- What a replacement does to find: nothing, for a name that neither the old slot nor the new one has;
   pub find-other : (n : Name) (t : S → Bool) (q : S) (ss : List S) → held n q ≡ false
-      → ((s : S) → t s ≡ true → held n s ≡ false) → find (held n) (replaceFirst t q ss) ≡ find (held n) ss
+      → ((s : S) → t s ≡ true → held n s ≡ false) → findFirst (held n) (replaceFirst t q ss) ≡ findFirst (held n) ss
   find-other n t q [] hq ht = refl
   find-other n t q (s ∷ ss) hq ht = split (t s) (λ e. simp (e, hq, ht s e)) (λ e. simp (e, find-other n t q ss hq ht))
 
   -- it brings no name but the new slot's;
-  pub find-none : (n : Name) (t : S → Bool) (q : S) (ss : List S) → held n q ≡ false → find (held n) ss ≡ none → find (held n) (replaceFirst t q ss) ≡ none
+  pub find-none : (n : Name) (t : S → Bool) (q : S) (ss : List S) → held n q ≡ false → findFirst (held n) ss ≡ none → findFirst (held n) (replaceFirst t q ss) ≡ none
   find-none n t q [] hq h = refl
   find-none n t q (s ∷ ss) hq h =
       let k = find-none-cons (held n) s ss h in
       split (t s) (λ e. simp (e, hq, k .1)) (λ e. simp (e, k .0, find-none n t q ss hq (k .1)))
 
   -- a known name's slot is exchanged;
-  pub find-known : (n : Name) (q r : S) (ss : List S) → held n q ≡ true → find (held n) ss ≡ some r → find (held n) (replaceFirst (held n) q ss) ≡ some q
+  pub find-known : (n : Name) (q r : S) (ss : List S) → held n q ≡ true → findFirst (held n) ss ≡ some r → findFirst (held n) (replaceFirst (held n) q ss) ≡ some q
   find-known n q r [] hq h = clashO none refl h
   find-known n q r (s ∷ ss) hq h = split (held n s) (λ e. simp (e, hq)) (λ e. simp (e, find-known n q r ss hq (simp e at h)))
 
   -- a new name takes the first slot that passes a test.
-  pub find-new : (n : Name) (t : S → Bool) (q : S) (ss : List S) → held n q ≡ true → find (held n) ss ≡ none → any t ss ≡ true → find (held n) (replaceFirst t q ss) ≡ some q
+  pub find-new : (n : Name) (t : S → Bool) (q : S) (ss : List S) → held n q ≡ true → findFirst (held n) ss ≡ none → any t ss ≡ true → findFirst (held n) (replaceFirst t q ss) ≡ some q
   find-new n t q [] hq h a = clash false a refl
   find-new n t q (s ∷ ss) hq h a =
       let k = find-none-cons (held n) s ss h in
@@ -92,33 +92,33 @@ module _ {S : Type 0} (at : S → Option Name) where
   -- No two slots have one name.
   abbrev pub Distinct : List S → Type 0
   Distinct [] = Unit {0}
-  Distinct (s ∷ ss) = ((n : Name) → held n s ≡ true → find (held n) ss ≡ none) × Distinct ss
+  Distinct (s ∷ ss) = ((n : Name) → held n s ≡ true → findFirst (held n) ss ≡ none) × Distinct ss
 
   -- A name is gone when its slot is given to something else.
-  pub find-gone : (n : Name) (q : S) (ss : List S) → Distinct ss → held n q ≡ false → find (held n) (replaceFirst (held n) q ss) ≡ none
+  pub find-gone : (n : Name) (q : S) (ss : List S) → Distinct ss → held n q ≡ false → findFirst (held n) (replaceFirst (held n) q ss) ≡ none
   find-gone n q [] d hq = refl
   find-gone n q (s ∷ ss) d hq = split (held n s) (λ e. simp (e, hq, d .0 n e)) (λ e. simp (e, find-gone n q ss (d .1) hq))
 
   -- A replacement keeps the names distinct if what the new slot has was nowhere, or is what the old slot had.
   pub distinct-replaceFirst : (t : S → Bool) (q : S) (ss : List S) → Distinct ss
-      → ((m : Name) → held m q ≡ true → (find (held m) ss ≡ none) ⊎ ((s : S) → t s ≡ held m s)) → Distinct (replaceFirst t q ss)
+      → ((m : Name) → held m q ≡ true → (findFirst (held m) ss ≡ none) ⊎ ((s : S) → t s ≡ held m s)) → Distinct (replaceFirst t q ss)
   distinct-replaceFirst t q [] d h = tt
   distinct-replaceFirst t q (s ∷ ss) d h = split (t s) (λ e. simp e (there e, d .1)) (λ e. simp e (beside e, distinct-replaceFirst t q ss (d .1) (λ m k. below m (h m k))))
     where
-      there : t s ≡ true → (m : Name) → held m q ≡ true → find (held m) ss ≡ none
+      there : t s ≡ true → (m : Name) → held m q ≡ true → findFirst (held m) ss ≡ none
       there e m k = elim (h m k) [ inl z ↦ find-none-cons (held m) s ss z .1 | inr f ↦ d .0 m (sym (f s) ∙ e) ]
 
-      beside : t s ≡ false → (m : Name) → held m s ≡ true → find (held m) (replaceFirst t q ss) ≡ none
+      beside : t s ≡ false → (m : Name) → held m s ≡ true → findFirst (held m) (replaceFirst t q ss) ≡ none
       beside e m k = split (held m q)
           (λ f. elim (h m f) [ inl z ↦ clash (held m s) k (find-none-cons (held m) s ss z .0) | inr g ↦ clash (t s) (g s ∙ k) e ])
           (λ f. find-none m t q ss f (d .0 m k))
 
-      below : (m : Name) → (find (held m) (s ∷ ss) ≡ none) ⊎ ((x : S) → t x ≡ held m x) → (find (held m) ss ≡ none) ⊎ ((x : S) → t x ≡ held m x)
+      below : (m : Name) → (findFirst (held m) (s ∷ ss) ≡ none) ⊎ ((x : S) → t x ≡ held m x) → (findFirst (held m) ss ≡ none) ⊎ ((x : S) → t x ≡ held m x)
       below m (inl z) = inl (find-none-cons (held m) s ss z .1)
       below m (inr f) = inr f
 
   -- A name that is found is among the names; and the test of the names is Distinct.
-  pub find-in : (n : Name) (ss : List S) (r : S) → find (held n) ss ≡ some r → List·Memᴰ n (namesBy at ss)
+  pub find-in : (n : Name) (ss : List S) (r : S) → findFirst (held n) ss ≡ some r → List·Memᴰ n (namesBy at ss)
   find-in n [] r h = clashO none refl h
   find-in n (s ∷ ss) r h = split (held n s) (λ e. rw (held-at n s e) (List·Memᴰ·head refl)) (λ e. more (at s) (find-in n ss r (simp e at h)))
     where
@@ -126,7 +126,7 @@ module _ {S : Type 0} (at : S → Option Name) where
       more none m = m
       more (some x) m = List·Memᴰ·tail m
 
-  member-find : (n : Name) (ss : List S) → member n (namesBy at ss) ≡ isSome (find (held n) ss)
+  member-find : (n : Name) (ss : List S) → member n (namesBy at ss) ≡ isSome (findFirst (held n) ss)
   member-find n [] = refl
   member-find n (s ∷ ss) = splitO (at s) (λ e. simp (e, member-find n ss)) (λ m e. split (bytesEq n m) (λ k. simp (e, k)) (λ k. simp (e, k, member-find n ss)))
 
@@ -135,7 +135,7 @@ module _ {S : Type 0} (at : S → Option Name) where
   to-distinct (s ∷ ss) h = splitO (at s)
       (λ e. ((λ n k. clash (held n s) k (simp e)), to-distinct ss (simp e at h)))
       (λ m e. let k = both (not (member m (namesBy at ss))) (distinct (namesBy at ss)) (simp e at h) in
-      ((λ n j. splitO (find (held n) ss) (λ z. z) (λ r z. clash (not (member m (namesBy at ss))) (k .0) (rw (← (bytesEq-eq n m (simp e at j)), member-find n ss, z)))), to-distinct ss (k .1)))
+      ((λ n j. splitO (findFirst (held n) ss) (λ z. z) (λ r z. clash (not (member m (namesBy at ss))) (k .0) (rw (← (bytesEq-eq n m (simp e at j)), member-find n ss, z)))), to-distinct ss (k .1)))
 
   pub of-distinct : (ss : List S) → Distinct ss → distinct (namesBy at ss) ≡ true
   of-distinct [] d = refl
@@ -144,27 +144,27 @@ module _ {S : Type 0} (at : S → Option Name) where
 
   -- The names in use are all in the list u.
   abbrev pub Within : List Name → List S → Type 0
-  Within u ss = (m : Name) (r : S) → find (held m) ss ≡ some r → List·Memᴰ m u
+  Within u ss = (m : Name) (r : S) → findFirst (held m) ss ≡ some r → List·Memᴰ m u
 
   pub within-replaceFirst : (u : List Name) (t : S → Bool) (q : S) (ss : List S) → Within u ss → ((m : Name) → held m q ≡ true → List·Memᴰ m u) → Within u (replaceFirst t q ss)
   within-replaceFirst u t q ss w h m r k = split (held m q) (λ e. h m e)
-      (λ e. splitO (find (held m) ss) (λ z. clashO (find (held m) (replaceFirst t q ss)) (find-none m t q ss e z) k) (λ p z. w m p z))
+      (λ e. splitO (findFirst (held m) ss) (λ z. clashO (findFirst (held m) (replaceFirst t q ss)) (find-none m t q ss e z) k) (λ p z. w m p z))
 
   -- Pigeonhole, for a test that every slot without a name passes.
   module _ (free : S → Bool) (used : (s : S) → free s ≡ false → at s ≡ none → ⊥) where
     -- A full list with distinct names of u, and one more of u in no slot: u is longer than the list.
-    tight : (n : Name) (ss : List S) (u : List Name) → any free ss ≡ false → Distinct ss → Within u ss → find (held n) ss ≡ none → List·Memᴰ n u
+    tight : (n : Name) (ss : List S) (u : List Name) → any free ss ≡ false → Distinct ss → Within u ss → findFirst (held n) ss ≡ none → List·Memᴰ n u
         → length ss < length u
     tight n [] u f d w a i = omega (arith, length-without u i)
     tight n (s ∷ ss) u f d w a i = split (free s) (λ e. clash true refl (simp e at f)) (λ x. splitO (at s) (λ e. absurd (used s x e)) (λ m e.
         let k : held m s ≡ true = simp (e, bytesEq-refl) in
         let j = w m s (simp k) in
-        let other : (x : Name) (r : S) → find (held x) ss ≡ some r → x ≢ m = λ x r h z. clashO (find (held m) ss) (d .0 m k) (rw z at h) in
+        let other : (x : Name) (r : S) → findFirst (held x) ss ≡ some r → x ≢ m = λ x r h z. clashO (findFirst (held m) ss) (d .0 m k) (rw z at h) in
         let w′ : Within (without u j) ss = λ x r h. still u j (other x r h) (w x r (rw (not-held x s m k (other x r h)) h)) in
         let c = find-none-cons (held n) s ss a in
         let i′ = still u j (λ (z : n ≡ m). clash (held m s) k (rw z at (c .0))) i in
         let ih = tight n ss (without u j) (simp x at f) (d .1) w′ (c .1) i′ in
         omega (arith, length-without u j)))
 
-    pub room : (n : Name) (ss : List S) (u : List Name) → Distinct ss → Within u ss → List·Memᴰ n u → length u ≤ length ss → find (held n) ss ≡ none → any free ss ≡ true
+    pub room : (n : Name) (ss : List S) (u : List Name) → Distinct ss → Within u ss → List·Memᴰ n u → length u ≤ length ss → findFirst (held n) ss ≡ none → any free ss ≡ true
     room n ss u d w i l a = split (any free ss) (λ e. e) (λ e. let t = tight n ss u e d w a i in absurd (omega arith))

@@ -1,12 +1,13 @@
 -- 01, "Card and chip": an area of 1 to 64 slots, each free or used by one name. One theory for both, over a format.
-use mathlib.Core.Bool.{Bool, true, false, cond, not, _&&_, _||_}
+use mathlib.Core.Bool.{Bool, cond, _&&_, _||_}
 use mathlib.Core.List.{List, [], _∷_, _++_}
 use mathlib.Core.Option.{Option, none, some}
-use Prim.Native.Nat.{ℕ, zero, suc, _+_, _-_, _*_, _/_}
+use Prim.Native.Nat.{ℕ, _+_, _-_, _*_, _/_}
 use lib.Dec.{eqb, leb}
 use lib.ListN.{length, getD, take, drop}
-use Rattle.spec.specs.Bytes.{every, any, isSome, bytesEq, zeros, allZero, zeroFill, leBytes, u16At}
+use Rattle.spec.specs.Bytes.{every, any, isSome, zeros, allZero, zeroFill, leBytes, u16At}
 use Rattle.spec.specs.Name.{Name, validName}
+use Rattle.spec.specs.Slots.{chunks, joinSlots, replaceFirst, findFirst, mapOption, distinct, isName, namesBy}
 
 -- Where the parts of a slot stand. `header` is what stands before the name; `payloadLength` is how many bytes a slot says that it holds.
 pub record Format : Type 0 where
@@ -45,59 +46,6 @@ nameLength slot = getD slot 1 0
 -- 01: "A free place or entry is all zero."
 unfoldable pub slotFree : List ℕ → Bool
 slotFree slot = allZero slot
-
--- the first k parts of w bytes each
-abbrev pub chunks : ℕ → ℕ → List ℕ → List (List ℕ)
-chunks w zero l = []
-chunks w (suc k) l = take w l ∷ chunks w k (drop w l)
-
-abbrev pub join : List (List ℕ) → List ℕ
-join [] = []
-join (s ∷ ss) = s ++ join ss
-
--- q in the place of the first element that passes the test, if there is one
-abbrev pub replaceFirst : {A : Type 0} → (A → Bool) → A → List A → List A
-replaceFirst t q [] = []
-replaceFirst t q (x ∷ xs) = cond (t x) (q ∷ xs) (x ∷ replaceFirst t q xs)
-
--- the index of the first element that passes the test, or how many there are
-abbrev pub first : {A : Type 0} → (A → Bool) → List A → ℕ
-first t [] = 0
-first t (x ∷ xs) = cond (t x) 0 (suc (first t xs))
-
-abbrev pub find : {A : Type 0} → (A → Bool) → List A → Option A
-find t [] = none
-find t (x ∷ xs) = cond (t x) (some x) (find t xs)
-
-abbrev pub mapOption : {A B : Type 0} → (A → B) → Option A → Option B
-mapOption f none = none
-mapOption f (some a) = some (f a)
-
-abbrev pub member : Name → List Name → Bool
-member n l = any (bytesEq n) l
-
--- no name twice
-abbrev pub distinct : List Name → Bool
-distinct [] = true
-distinct (n ∷ l) = not (member n l) && distinct l
-
--- equal names once
-abbrev pub dedup : List Name → List Name
-dedup [] = []
-dedup (n ∷ l) = cond (member n l) (dedup l) (n ∷ dedup l)
-
-abbrev pub isName : Name → Option Name → Bool
-isName n none = false
-isName n (some m) = bytesEq n m
-
-abbrev pub consName : Option Name → List Name → List Name
-consName none l = l
-consName (some n) l = n ∷ l
-
--- the names of those that have one
-abbrev pub namesBy : {A : Type 0} → (A → Option Name) → List A → List Name
-namesBy holder [] = []
-namesBy holder (x ∷ xs) = consName (holder x) (namesBy holder xs)
 
 module _ (F : Format) where
   -- 516 bytes on the card, 16 in the chip
@@ -153,7 +101,7 @@ module _ (F : Format) where
 
   -- what an area holds for a name
   unfoldable pub lookup : List ℕ → Name → Option (List ℕ)
-  lookup area name = mapOption slotPayload (find (holds name) (slots area))
+  lookup area name = mapOption slotPayload (findFirst (holds name) (slots area))
 
   -- a free slot is there
   unfoldable pub hasSpace : List ℕ → Bool
@@ -163,12 +111,12 @@ module _ (F : Format) where
   abbrev pub target : List ℕ → Name → List ℕ → Bool
   target area name = cond (isSome (lookup area name)) (holds name) slotFree
 
-  unfoldable pub insert : List ℕ → Name → List ℕ → List ℕ
-  insert area name payload = join (replaceFirst (target area name) (makeSlot name payload) (slots area))
+  unfoldable pub insertSlot : List ℕ → Name → List ℕ → List ℕ
+  insertSlot area name payload = joinSlots (replaceFirst (target area name) (makeSlot name payload) (slots area))
 
   -- 01: "the place is zeroed"
-  unfoldable pub erase : List ℕ → Name → List ℕ
-  erase area name = join (replaceFirst (holds name) (zeros (F .slotSize)) (slots area))
+  unfoldable pub eraseSlot : List ℕ → Name → List ℕ
+  eraseSlot area name = joinSlots (replaceFirst (holds name) (zeros (F .slotSize)) (slots area))
 
 -- What a call does to one name in one area. It says the same of an area and of the reference model.
 pub data Edit : Type 0 where
@@ -178,5 +126,5 @@ pub data Edit : Type 0 where
 
 abbrev pub editArea : Format → List ℕ → Name → Edit → List ℕ
 editArea F area name keep = area
-editArea F area name (write payload) = insert F area name payload
-editArea F area name clear = erase F area name
+editArea F area name (write payload) = insertSlot F area name payload
+editArea F area name clear = eraseSlot F area name

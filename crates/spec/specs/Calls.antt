@@ -10,7 +10,8 @@ use Rattle.spec.specs.Bytes.{bytesEq, zeros}
 use Rattle.spec.specs.Status.{ok, errLength, errCorrupt, errInvalidName, errNotFound, refuseIf, onOk}
 use Rattle.spec.specs.Name.{Name, validPrefix}
 use Rattle.spec.specs.Record.{dataSizeOf, flagsOf}
-use Rattle.spec.specs.Area.{kvFormat, rbpFormat, slots, slotHolder, sized, intact, lookup, hasSpace, first, editArea}
+use Rattle.spec.specs.Slots.{firstIndex}
+use Rattle.spec.specs.Area.{kvFormat, rbpFormat, slots, slotHolder, sized, intact, lookup, hasSpace, editArea}
 use Rattle.spec.specs.Binding.{Binding, Effect, recordOf, setDecision, setEffect, getDecision, readCount, readOutput, removeDecision, removeEffect}
 
 -- 01: "device key not 16, IV not 8"
@@ -55,8 +56,8 @@ written status kv rbp name effect = record {
   rbp = onOk status (editArea rbpFormat rbp name (effect .rbp)) rbp;
 }
 
-unfoldable pub set : List ℕ → List ℕ → List ℕ → Name → ℕ → List ℕ → List ℕ → Written
-set kv rbp key name flags iv value = written (setStatus kv rbp key name flags iv value) kv rbp name (setEffect key name flags iv value)
+unfoldable pub storeSet : List ℕ → List ℕ → List ℕ → Name → ℕ → List ℕ → List ℕ → Written
+storeSet kv rbp key name flags iv value = written (setStatus kv rbp key name flags iv value) kv rbp name (setEffect key name flags iv value)
 
 -- ---- get
 
@@ -70,8 +71,8 @@ pub record Got : Type 0 where
   pub count : ℕ
   pub output : List ℕ
 
-unfoldable pub get : List ℕ → List ℕ → List ℕ → Name → ℕ → List ℕ → Got
-get kv rbp key name offset output =
+unfoldable pub storeGet : List ℕ → List ℕ → List ℕ → Name → ℕ → List ℕ → Got
+storeGet kv rbp key name offset output =
     let status = getStatus kv rbp key name offset in
     let r = recordOf (lookup kvFormat kv name) in
     record { status = status; count = onOk status (readCount offset output r) 0; output = onOk status (readOutput key name offset output r) output }
@@ -83,8 +84,8 @@ pub record Info : Type 0 where
   pub dataSize : ℕ
   pub flags : ℕ
 
-unfoldable pub getInfo : List ℕ → List ℕ → List ℕ → Name → Info
-getInfo kv rbp key name =
+unfoldable pub storeGetInfo : List ℕ → List ℕ → List ℕ → Name → Info
+storeGetInfo kv rbp key name =
     let status = getStatus kv rbp key name 0 in
     let r = recordOf (lookup kvFormat kv name) in
     record { status = status; dataSize = onOk status (dataSizeOf r) 0; flags = onOk status (flagsOf r) 0 }
@@ -94,13 +95,13 @@ getInfo kv rbp key name =
 unfoldable pub removeStatus : List ℕ → List ℕ → Name → ℕ
 removeStatus kv rbp name = guarded (areasSized kv rbp) (areasIntact kv rbp) (removeDecision name (bindingOf kv rbp name))
 
-unfoldable pub remove : List ℕ → List ℕ → Name → Written
-remove kv rbp name = written (removeStatus kv rbp name) kv rbp name (removeEffect (bindingOf kv rbp name))
+unfoldable pub storeRemove : List ℕ → List ℕ → Name → Written
+storeRemove kv rbp name = written (removeStatus kv rbp name) kv rbp name (removeEffect (bindingOf kv rbp name))
 
 -- ---- reset: "1 only. Done: both buffers are all zero."
 
-unfoldable pub reset : List ℕ → List ℕ → Written
-reset kv rbp =
+unfoldable pub storeReset : List ℕ → List ℕ → Written
+storeReset kv rbp =
     let status = refuseIf (not (areasSized kv rbp)) errLength ok in
     record { status = status; kv = onOk status (zeros (length kv)) kv; rbp = onOk status (zeros (length rbp)) rbp }
 
@@ -122,7 +123,7 @@ nameOr (some name) = name
 
 -- the first used slot with the prefix, from the start slot on; or one past the last slot, or past the start
 unfoldable pub nextMatch : List ℕ → List ℕ → ℕ → ℕ
-nextMatch kv prefix start = start + first (slotHasPrefix prefix) (drop start (slots kvFormat kv))
+nextMatch kv prefix start = start + firstIndex (slotHasPrefix prefix) (drop start (slots kvFormat kv))
 
 unfoldable pub iteratorStatus : List ℕ → List ℕ → List ℕ → ℕ → List ℕ → ℕ
 iteratorStatus kv rbp prefix start nameBuf =
@@ -137,8 +138,8 @@ pub record Iterated : Type 0 where
   pub nameBuf : List ℕ
 
 -- "the first such name at the front of the name buffer, the rest as before; its length; and the place after it"
-unfoldable pub iteratorNext : List ℕ → List ℕ → List ℕ → ℕ → List ℕ → Iterated
-iteratorNext kv rbp prefix start nameBuf =
+unfoldable pub storeIteratorNext : List ℕ → List ℕ → List ℕ → ℕ → List ℕ → Iterated
+storeIteratorNext kv rbp prefix start nameBuf =
     let status = iteratorStatus kv rbp prefix start nameBuf in
     let at = nextMatch kv prefix start in
     let name = nameOr (slotHolder kvFormat (getD (slots kvFormat kv) at [])) in

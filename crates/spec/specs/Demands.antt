@@ -13,8 +13,9 @@ use Rattle.spec.specs.Bytes.{zeros, leBytes}
 use Rattle.spec.specs.Status.{ok, isListed}
 use Rattle.spec.specs.Name.{Name, validName}
 use Rattle.spec.specs.Record.{writeOnce, requireConfidentiality, requireIntegrity, requireReplayProtection, revision1, dataSizeOf, flagsOf, metadataOf, storedDataOf, tagOf, recordValid}
-use Rattle.spec.specs.Area.{Format, kvFormat, rbpFormat, slotFree, slotHolder, slotCount, slots, sized, names, intact, lookup, dedup}
-use Rattle.spec.specs.Calls.{Written, Got, Info, Iterated, bindingOf, set, get, getInfo, remove, reset, iteratorNext}
+use Rattle.spec.specs.Slots.{dedup}
+use Rattle.spec.specs.Area.{Format, kvFormat, rbpFormat, slotFree, slotHolder, slotCount, slots, sized, names, intact, lookup}
+use Rattle.spec.specs.Calls.{Written, Got, Info, Iterated, bindingOf, storeSet, storeGet, storeGetInfo, storeRemove, storeReset, storeIteratorNext}
 use Rattle.spec.specs.Interleaving.{Tagged, Interleaving, lefts, rights, Outcome, answers, final, sharedStep}
 use Rattle.spec.specs.Model.{Call, setCall, getCall, getInfoCall, removeCall, callName, Answer, setAnswer, getAnswer, getInfoAnswer, removeAnswer, modelOf, modelBinding, modelStep}
 
@@ -42,12 +43,12 @@ pub record IteratedWell (nameBuf : List ℕ) (r : Iterated) : Type 0 where
   pub buf-kept : r .status ≢ ok → r .nameBuf ≡ nameBuf
 
 pub record Demand1 : Type 0 where
-  pub of-set : (kv rbp key name : List ℕ) (flags : ℕ) (iv value : List ℕ) → WrittenWell kv rbp (set kv rbp key name flags iv value)
-  pub of-get : (kv rbp key name : List ℕ) (offset : ℕ) (output : List ℕ) → GotWell output (get kv rbp key name offset output)
-  pub of-getInfo : (kv rbp key name : List ℕ) → InfoWell (getInfo kv rbp key name)
-  pub of-remove : (kv rbp name : List ℕ) → WrittenWell kv rbp (remove kv rbp name)
-  pub of-reset : (kv rbp : List ℕ) → WrittenWell kv rbp (reset kv rbp)
-  pub of-iteratorNext : (kv rbp prefix : List ℕ) (start : ℕ) (nameBuf : List ℕ) → IteratedWell nameBuf (iteratorNext kv rbp prefix start nameBuf)
+  pub of-set : (kv rbp key name : List ℕ) (flags : ℕ) (iv value : List ℕ) → WrittenWell kv rbp (storeSet kv rbp key name flags iv value)
+  pub of-get : (kv rbp key name : List ℕ) (offset : ℕ) (output : List ℕ) → GotWell output (storeGet kv rbp key name offset output)
+  pub of-getInfo : (kv rbp key name : List ℕ) → InfoWell (storeGetInfo kv rbp key name)
+  pub of-remove : (kv rbp name : List ℕ) → WrittenWell kv rbp (storeRemove kv rbp name)
+  pub of-reset : (kv rbp : List ℕ) → WrittenWell kv rbp (storeReset kv rbp)
+  pub of-iteratorNext : (kv rbp prefix : List ℕ) (start : ℕ) (nameBuf : List ℕ) → IteratedWell nameBuf (storeIteratorNext kv rbp prefix start nameBuf)
 
 -- ---- Demand 2: a get gives back what was set, and nothing else. From every card and chip.
 
@@ -85,14 +86,14 @@ pub record Reads (key name : List ℕ) (offset : ℕ) (output r : List ℕ) (g :
   pub bytes : g .output ≡ take (g .count) (drop offset (opened key name r)) ++ drop (g .count) output
 
 pub record GetExact : Type 0 where
-  pub condition : (kv rbp key name : List ℕ) (offset : ℕ) (output : List ℕ) → (get kv rbp key name offset output .status ≡ ok) ↔ Readable kv rbp key name offset
-  pub gives : (kv rbp key name : List ℕ) (offset : ℕ) (output : List ℕ) (h : Readable kv rbp key name offset) → Reads key name offset output (h .r) (get kv rbp key name offset output)
+  pub condition : (kv rbp key name : List ℕ) (offset : ℕ) (output : List ℕ) → (storeGet kv rbp key name offset output .status ≡ ok) ↔ Readable kv rbp key name offset
+  pub gives : (kv rbp key name : List ℕ) (offset : ℕ) (output : List ℕ) (h : Readable kv rbp key name offset) → Reads key name offset output (h .r) (storeGet kv rbp key name offset output)
 
 -- info: "judged as a get at offset 0 into an empty output; gives data size and flags"
 pub record InfoExact : Type 0 where
-  pub condition : (kv rbp key name : List ℕ) → (getInfo kv rbp key name .status ≡ ok) ↔ Readable kv rbp key name 0
-  pub size : (kv rbp key name : List ℕ) (h : Readable kv rbp key name 0) → getInfo kv rbp key name .dataSize ≡ dataSizeOf (h .r)
-  pub flags : (kv rbp key name : List ℕ) (h : Readable kv rbp key name 0) → getInfo kv rbp key name .flags ≡ flagsOf (h .r)
+  pub condition : (kv rbp key name : List ℕ) → (storeGetInfo kv rbp key name .status ≡ ok) ↔ Readable kv rbp key name 0
+  pub size : (kv rbp key name : List ℕ) (h : Readable kv rbp key name 0) → storeGetInfo kv rbp key name .dataSize ≡ dataSizeOf (h .r)
+  pub flags : (kv rbp key name : List ℕ) (h : Readable kv rbp key name 0) → storeGetInfo kv rbp key name .flags ≡ flagsOf (h .r)
 
 -- What a set's 0 asks for, so that a set that refuses everything does not pass the round trip.
 pub record FreeSlot (F : Format) (area : List ℕ) : Type 0 where
@@ -120,12 +121,12 @@ pub record Settable (kv rbp key name : List ℕ) (flags : ℕ) (iv value : List 
   pub rbp-room : requireReplayProtection flags ≡ true → lookup rbpFormat rbp name ≡ none → FreeSlot rbpFormat rbp
 
 abbrev pub SetExact : Type 0
-SetExact = (kv rbp key name : List ℕ) (flags : ℕ) (iv value : List ℕ) → (set kv rbp key name flags iv value .status ≡ ok) ↔ Settable kv rbp key name flags iv value
+SetExact = (kv rbp key name : List ℕ) (flags : ℕ) (iv value : List ℕ) → (storeSet kv rbp key name flags iv value .status ≡ ok) ↔ Settable kv rbp key name flags iv value
 
 -- an accepted set, then a get with the same key, offset 0 and enough output
 abbrev pub RoundTrip : Type 0
-RoundTrip = (kv rbp key name : List ℕ) (flags : ℕ) (iv value output : List ℕ) → set kv rbp key name flags iv value .status ≡ ok → length value ≤ length output
-    → get (set kv rbp key name flags iv value .kv) (set kv rbp key name flags iv value .rbp) key name 0 output
+RoundTrip = (kv rbp key name : List ℕ) (flags : ℕ) (iv value output : List ℕ) → storeSet kv rbp key name flags iv value .status ≡ ok → length value ≤ length output
+    → storeGet (storeSet kv rbp key name flags iv value .kv) (storeSet kv rbp key name flags iv value .rbp) key name 0 output
     ≡ record { status = ok; count = length value; output = value ++ drop (length value) output }
 
 -- What an accepted set stores, byte for byte, written out once more from 01's text so that the demand does not rest on what it judges.
@@ -168,8 +169,8 @@ pub record Stores (kv rbp key name : List ℕ) (flags : ℕ) (iv value : List �
   pub rbp-kept : requireReplayProtection flags ≡ false → w .rbp ≡ rbp
 
 abbrev pub SetStores : Type 0
-SetStores = (kv rbp key name : List ℕ) (flags : ℕ) (iv value : List ℕ) → set kv rbp key name flags iv value .status ≡ ok
-    → Stores kv rbp key name flags iv value (set kv rbp key name flags iv value)
+SetStores = (kv rbp key name : List ℕ) (flags : ℕ) (iv value : List ℕ) → storeSet kv rbp key name flags iv value .status ≡ ok
+    → Stores kv rbp key name flags iv value (storeSet kv rbp key name flags iv value)
 
 pub record Demand2 : Type 0 where
   pub get-exact : GetExact
@@ -187,16 +188,16 @@ pub record Areas : Type 0 where
 -- the store's step: the calls themselves
 abbrev pub storeStep : Areas → Call → Outcome Areas Answer
 storeStep s (setCall key name flags iv value) =
-    let r = set (s .kv) (s .rbp) key name flags iv value in
+    let r = storeSet (s .kv) (s .rbp) key name flags iv value in
     record { answer = setAnswer (r .status); after = record { kv = r .kv; rbp = r .rbp } }
 storeStep s (getCall key name offset output) =
-    let r = get (s .kv) (s .rbp) key name offset output in
+    let r = storeGet (s .kv) (s .rbp) key name offset output in
     record { answer = getAnswer (r .status) (r .count) (r .output); after = s }
 storeStep s (getInfoCall key name) =
-    let r = getInfo (s .kv) (s .rbp) key name in
+    let r = storeGetInfo (s .kv) (s .rbp) key name in
     record { answer = getInfoAnswer (r .status) (r .dataSize) (r .flags); after = s }
 storeStep s (removeCall name) =
-    let r = remove (s .kv) (s .rbp) name in
+    let r = storeRemove (s .kv) (s .rbp) name in
     record { answer = removeAnswer (r .status); after = record { kv = r .kv; rbp = r .rbp } }
 
 -- 01: "A name set is a good one that a set call of either list gives, accepted or refused"

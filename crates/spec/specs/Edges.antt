@@ -9,7 +9,7 @@ use Rattle.cipher.specs.Kdf.{salt, encPrefix, authPrefix}
 use Rattle.spec.specs.Bytes.{every, bytesEq, zeros}
 use Rattle.spec.specs.Status.{ok, errInvalidName, errInvalidFlags, errDataSize, errOffset}
 use Rattle.spec.specs.Name.{Name, keyName}
-use Rattle.spec.specs.Calls.{setStatus, set, get}
+use Rattle.spec.specs.Calls.{setStatus, storeSet, storeGet}
 
 pub record Row : Type 0 where
   pub gives : List ℕ
@@ -28,12 +28,12 @@ statusOf name flags value = setStatus (zeros 584) (zeros 82) (zeros 16) name fla
 
 -- the card after a set of "a" with flags 0
 abbrev pub cardAfter : List ℕ → List ℕ
-cardAfter value = set (zeros 584) (zeros 82) (zeros 16) nameA 0 (zeros 8) value .kv
+cardAfter value = storeSet (zeros 584) (zeros 82) (zeros 16) nameA 0 (zeros 8) value .kv
 
 -- the status and the count of a get at an offset, after a set of three bytes
 abbrev pub readAt : ℕ → List ℕ
 readAt offset =
-    let g = get (cardAfter (1 ∷ 2 ∷ 3 ∷ [])) (zeros 82) (zeros 16) nameA offset (zeros 8) in
+    let g = storeGet (cardAfter (1 ∷ 2 ∷ 3 ∷ [])) (zeros 82) (zeros 16) nameA offset (zeros 8) in
     g .status ∷ g .count ∷ []
 
 -- 29 bytes, the last one unlike the others

@@ -2,10 +2,12 @@ pub mod Bytes
 pub mod Status
 pub mod Name
 pub mod Record
+pub mod Slots
 pub mod Area
 pub mod Binding
 pub mod Calls
 pub mod Interleaving
 pub mod Model
 pub mod Demands
+pub mod Facts
 pub mod Edges

@@ -1,0 +1,165 @@
+-- The exact condition for an iterator_next's 0, and what it gives.
+use mathlib.Core.Path.{_≡_, refl, sym, _∙_}
+use mathlib.Core.Bool.{Bool, true, false}
+use mathlib.Core.List.{List, [], _++_}
+use mathlib.Core.Option.{Option, none, some}
+use Prim.Native.Nat.{ℕ, suc, _+_, _-_, _≤_, _<_}
+use native.Mathlib.Omega.{arith}
+use borrow.Author.Tests.{ltb-true, ltb-false, lt-ltb, leb-true, le-leb}
+use lib.Dec.{ltb, leb}
+use lib.ListN.{length, getD, take, drop, length-drop}
+use lib.Seq.{getD-drop}
+use Rattle.spec.specs.Bytes.{any}
+use Rattle.spec.specs.Status.{ok, refuseIf}
+use Rattle.spec.specs.Name.{Name, validPrefix}
+use Rattle.spec.specs.Slots.{firstIndex}
+use Rattle.spec.specs.Area.{kvFormat, slotHolder, slotCount, slots}
+use Rattle.spec.specs.Calls.{areasSized, guarded, nameHasPrefix, slotHasPrefix, nextMatch, iteratorStatus, Iterated, storeIteratorNext}
+use Rattle.spec.specs.Facts.{Match, Iterable, IteratorExact}
+use Rattle.spec.proofs.Split.{split, clash, both, not-false-is}
+use Rattle.spec.proofs.Bytes.{bytesEq-eq, eq-bytesEq}
+use Rattle.spec.proofs.Chunks.{length-chunks}
+use Rattle.spec.proofs.First.{any-first, any-at, first-passes, first-lowest}
+use Rattle.spec.proofs.Status.{passed, guard-passed, on-ok}
+use Rattle.spec.proofs.Get.{undamaged-of}
+
+-- ---- the test of a slot
+
+prefix-name : (prefix : List ℕ) (o : Option Name) → nameHasPrefix prefix o ≡ true → (name : Name) × (o ≡ some name) × (prefix ≡ take (length prefix) name)
+prefix-name prefix none h = clash false h refl
+prefix-name prefix (some name) h = (name, refl, bytesEq-eq prefix (take (length prefix) name) h)
+
+name-prefix : (prefix : List ℕ) (o : Option Name) (name : Name) → o ≡ some name → prefix ≡ take (length prefix) name → nameHasPrefix prefix o ≡ true
+name-prefix prefix o name e h = rw e (eq-bytesEq prefix (take (length prefix) name) h)
+
+module _ (kv prefix : List ℕ) (start : ℕ) where
+  abbrev all : List (List ℕ)
+  all = slots kvFormat kv
+
+  abbrev test : List ℕ → Bool
+  test = slotHasPrefix prefix
+
+  -- how far behind the start slot the first match is
+  abbrev ahead : ℕ
+  ahead = firstIndex test (drop start all)
+
+  count-is : length all ≡ slotCount kvFormat kv
+  count-is = length-chunks 584 (slotCount kvFormat kv) kv
+
+  -- a match is ahead, when some slot from the start on passes the test
+  module _ (h : start + ahead < length all) where
+    some-match : any test (drop start all) ≡ true
+    some-match = any-first test (drop start all) ∙ lt-ltb ahead (length (drop start all)) (rw (length-drop start all) (omega arith))
+
+    passes : test (getD all (start + ahead) []) ≡ true
+    passes = rw (← (getD-drop start all ahead [])) (first-passes test (drop start all) [] some-match)
+
+    below : (j : ℕ) → start ≤ j → j < start + ahead → test (getD all j []) ≡ false
+    below j l k =
+        let e : start + (j - start) ≡ j = omega arith in
+        let f = first-lowest test (drop start all) [] (j - start) (omega arith) in
+        rw e at (rw (getD-drop start all (j - start) []) at f)
+
+    a-match : (name : Name) × Match kv prefix start (start + ahead) name
+    a-match =
+        let p = prefix-name prefix (slotHolder kvFormat (getD all (start + ahead) [])) passes in
+        let c = count-is in (
+          p .0,
+          record {
+            from-start = omega arith;
+            in-range = omega arith;
+            held = p .1;
+            prefixed = p .2;
+            lowest = λ j other l k e z. clash (test (getD all j [])) (name-prefix prefix _ other e z) (below j l k);
+          },
+        )
+
+  -- a match decides where the first one is
+  module _ (i : ℕ) (name : Name) (m : Match kv prefix start i name) where
+    match-passes : test (getD (drop start all) (i - start) []) ≡ true
+    match-passes =
+        let l = m .from-start in
+        let e : start + (i - start) ≡ i = omega arith in
+        rw (getD-drop start all (i - start) [], e) (name-prefix prefix (slotHolder kvFormat (getD all i [])) name (m .held) (m .prefixed))
+
+    match-any : any test (drop start all) ≡ true
+    match-any =
+        let l = m .from-start in
+        let r = m .in-range in
+        let c = count-is in
+        any-at test (drop start all) [] (i - start) (rw (length-drop start all) (omega arith)) match-passes
+
+    match-ahead : start + ahead < length all
+    match-ahead =
+        let f = ltb-true ahead (length (drop start all)) (sym (any-first test (drop start all)) ∙ match-any) in
+        let d = length-drop start all in
+        omega arith
+
+    match-is : start + ahead ≡ i
+    match-is = split (ltb (start + ahead) i)
+        (λ e.
+        let k = ltb-true (start + ahead) i e in
+        let p = prefix-name prefix (slotHolder kvFormat (getD all (start + ahead) [])) (passes match-ahead) in
+        absurd (m .lowest (start + ahead) (p .0) (omega arith) k (p .1) (p .2)))
+        (λ e.
+        let k = ltb-false (start + ahead) i e in
+        split (ltb i (start + ahead))
+        (λ f.
+        let l = m .from-start in
+        clash (test (getD all i [])) (name-prefix prefix (slotHolder kvFormat (getD all i [])) name (m .held) (m .prefixed)) (below match-ahead i l (ltb-true i (start + ahead) f)))
+        (λ f. let q = ltb-false i (start + ahead) f in omega arith))
+
+iterated-eq : {r : Iterated} {status nameLen nextSlot : ℕ} {nameBuf : List ℕ} → r .status ≡ status → r .nameLen ≡ nameLen → r .nextSlot ≡ nextSlot → r .nameBuf ≡ nameBuf
+    → r ≡ record { status = status; nameLen = nameLen; nextSlot = nextSlot; nameBuf = nameBuf }
+iterated-eq p q r s = λ i. record { status = p i; nameLen = q i; nextSlot = r i; nameBuf = s i }
+
+module _ (kv rbp prefix : List ℕ) (start : ℕ) (nameBuf : List ℕ) where
+  iterable : iteratorStatus kv rbp prefix start nameBuf ≡ ok → Iterable kv rbp prefix start nameBuf
+  unfolding iteratorStatus nextMatch
+  iterable h =
+      let g = guard-passed _ _ _ h in
+      let l = both (areasSized kv rbp) (leb 64 (length nameBuf)) (g .0) in
+      let p = passed _ 3 _ (omega arith) (g .2) in
+      let n = passed _ 6 _ (omega arith) (p .1) in
+      let m = a-match kv prefix start (ltb-true _ _ (not-false-is _ (n .0))) in
+      record {
+        undamaged = undamaged-of kv rbp (l .0) (g .1);
+        buf-sized = leb-true 64 (length nameBuf) (l .1);
+        prefix-valid = not-false-is (validPrefix prefix) (p .0);
+        i = nextMatch kv prefix start;
+        name = m .0;
+        found = m .1;
+      }
+
+  module _ (h : Iterable kv rbp prefix start nameBuf) where
+    next-is : nextMatch kv prefix start ≡ h .i
+    unfolding nextMatch
+    next-is = match-is kv prefix start (h .i) (h .name) (h .found)
+
+    iterable-ok : iteratorStatus kv rbp prefix start nameBuf ≡ ok
+    unfolding iteratorStatus guarded refuseIf
+    iterable-ok =
+        let r = h .found .in-range in
+        let c = count-is kv prefix start in
+        rw (
+          h .undamaged .kv-sized,
+          h .undamaged .rbp-sized,
+          h .undamaged .kv-intact,
+          h .undamaged .rbp-intact,
+          le-leb 64 (length nameBuf) (h .buf-sized),
+          h .prefix-valid,
+          next-is,
+          lt-ltb (h .i) (length (slots kvFormat kv)) (omega arith),
+        )
+
+    iterated : storeIteratorNext kv rbp prefix start nameBuf
+        ≡ record { status = ok; nameLen = length (h .name); nextSlot = suc (h .i); nameBuf = h .name ++ drop (length (h .name)) nameBuf }
+    unfolding storeIteratorNext
+    iterated = iterated-eq iterable-ok (on-ok _ _ 0 iterable-ok ∙ rw (next-is, h .found .held)) (on-ok _ _ 0 iterable-ok ∙ rw next-is) (on-ok _ _ nameBuf iterable-ok ∙ rw (next-is, h .found .held))
+
+pub iterator-exact : IteratorExact
+unfolding storeIteratorNext
+iterator-exact = record {
+  condition = λ kv rbp prefix start nameBuf. (iterable kv rbp prefix start nameBuf, iterable-ok kv rbp prefix start nameBuf);
+  gives = λ kv rbp prefix start nameBuf h. iterated kv rbp prefix start nameBuf h;
+}

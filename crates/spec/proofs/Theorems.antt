@@ -1,0 +1,29 @@
+-- Every statement of `specs/`, with its proof.
+use Rattle.spec.specs.Demands.{Demand1, Demand2, ClientIsolation}
+use Rattle.spec.specs.Facts.{RemoveExact, IteratorExact}
+use Rattle.spec.specs.Edges.{Edges}
+use Rattle.spec.proofs.Demand1.{demand1-holds}
+use Rattle.spec.proofs.Get.{get-exact, info-exact}
+use Rattle.spec.proofs.Set.{set-exact, round-trip, set-stores}
+use Rattle.spec.proofs.Isolation.{client-isolation}
+use Rattle.spec.proofs.Remove.{remove-exact}
+use Rattle.spec.proofs.Iterator.{iterator-exact}
+use Rattle.spec.proofs.Edges.{edges-hold}
+
+pub demand1 : Demand1
+demand1 = demand1-holds
+
+pub demand2 : Demand2
+demand2 = record { get-exact = get-exact; info-exact = info-exact; set-exact = set-exact; round-trip = round-trip; set-stores = set-stores }
+
+pub demand3 : ClientIsolation
+demand3 = client-isolation
+
+pub remove : RemoveExact
+remove = remove-exact
+
+pub iterator-next : IteratorExact
+iterator-next = iterator-exact
+
+pub edges : Edges
+edges = edges-hold
