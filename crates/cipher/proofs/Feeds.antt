@@ -1,14 +1,16 @@
 -- Feeding in parts is feeding the whole. Assumes nothing.
 use mathlib.Core.Path.{_≡_, refl, sym, ap, _∙_}
 use mathlib.Core.List.{List, [], _∷_, foldl, foldl-append}
-use Prim.Native.Nat.{ℕ, _≤_}
+use Prim.Native.Nat.{ℕ, _≤_, _<_, min}
 use native.Mathlib.Nat.{min-eq-left, min-le-right}
 use native.Mathlib.Omega.{arith}
 use lib.Dec.{ltb}
 use borrow.Author.Tests.{ltb-true}
 use Rattle.cipher.specs.declared.cmac.CmacState.{CmacState}
-use Rattle.cipher.specs.CmacState.{clamped, fedByte, fed}
-use Rattle.cipher.specs.Laws.{FeedAppend, concatAll}
+use Rattle.cipher.specs.Aes.{encryptWith}
+use Rattle.cipher.specs.Cmac.{subkey1, subkey2}
+use Rattle.cipher.specs.CmacState.{keyed, begun, clamped, fedByte, fed, closedBlock, finished}
+use Rattle.cipher.specs.Laws.{FeedAppend, KeysKept, FullBlock, concatAll}
 use Rattle.cipher.proofs.Cases.{by-test}
 use Rattle.cipher.proofs.Fold.{state}
 
@@ -50,3 +52,19 @@ pub feed-parts : (s : CmacState) (parts : List (List ℕ)) → s .pending ≤ 16
 unfolding fed
 feed-parts s [] h = sym (clamped-same s h)
 feed-parts s (p ∷ parts) h = feed-parts (fed s p) parts (fed-pending s p) ∙ feed-append s p (concatAll parts)
+
+pub keys-kept : KeysKept
+unfolding keyed begun finished
+keys-kept = record { in-keyed = λ key. refl; in-begun = λ s. refl; in-fed = fed-keys; in-finished = λ s. refl }
+
+-- more than a block holds counts as a full one
+clamped-full : (s : CmacState) → 16 < s .pending → min (s .pending) 16 ≡ 16
+clamped-full s h = omega arith
+
+pub full-block : FullBlock
+unfolding fed clamped finished
+full-block = record {
+  in-fed = λ s m h. ap (λ (p : ℕ). foldl fedByte (state (s .block) p (s .keys)) m) (clamped-full s h);
+  in-finished = λ s h.
+      ap (λ (p : ℕ). state (encryptWith (s .keys) (closedBlock (s .block) p (subkey1 (encryptWith (s .keys))) (subkey2 (encryptWith (s .keys))))) 0 (s .keys)) (clamped-full s h);
+}

@@ -14,3 +14,4 @@ pub mod Tag
 pub mod Salt
 pub mod Stream
 pub mod Inverse
+pub mod Theorems

@@ -147,7 +147,7 @@ bytes-at (b ∷ l) h (suc i) = bytes-at l (h .1) i
 
 pub tag-of-parts : TagOfParts
 unfolding begun keyed
-tag-of-parts key len bytes old parts =
-    ap (λ (s : CmacState). finished s .block)
-    (ap (λ (ks : List ℕ). foldl fed (state (replicate 16 0) 0 ks) parts) (fed-keys (keyed key) old) ∙ feed-parts (keyed key) parts (omega arith))
+tag-of-parts key bytes s e parts =
+    ap (λ (t : CmacState). finished t .block)
+    (ap (λ (ks : List ℕ). foldl fed (state (replicate 16 0) 0 ks) parts) e ∙ feed-parts (keyed key) parts (omega arith))
     ∙ tag-whole key (concatAll parts) (bytes-at key bytes)

@@ -2,7 +2,7 @@
 -- pending bytes already added to it, how many those are (01: "fill"), and the expanded key.
 use Prim.Native.Nat.{ℕ, _+_, min}
 use mathlib.Core.Bool.{cond}
-use mathlib.Core.List.{List, [], _∷_, foldl}
+use mathlib.Core.List.{List, foldl}
 use lib.Bits.{bitXor}
 use lib.Dec.{ltb}
 use lib.ListN.{getD, set, replicate}

@@ -1,6 +1,6 @@
 -- FIPS 197, 5.1.1: the substitution of a byte, by its rule.
 use Prim.Native.Nat.{ℕ, zero, suc, _+_, _*_, _/_, _%_, _^_}
-use mathlib.Core.List.{List, [], _∷_, map}
+use mathlib.Core.List.{List, [], _∷_}
 use Rattle.cipher.specs.Field.{mul}
 
 -- Step 1, the multiplicative inverse, and 0 for 0: the 254th power, by squaring. That it is an inverse is `InverseLaw`.

@@ -9,11 +9,11 @@ ghost use Rattle.cipher.specs.Tables.{mixTable, mixWord};
 ghost use Rattle.cipher.specs.Aes.{numberWord, rotWord, subWord, mixColumn, diagonal, wordAt, stateOf, blockOf, subBytes, shiftRows, mixColumns, addRoundKey, keptKey, encryptWith, rcon, nextRoundKey, stateNumbers, expandKey, aes128};
 ghost use Rattle.cipher.specs.Columns.{columnsState};
 
-pub struct Columns {
-    pub c0: u32,
-    pub c1: u32,
-    pub c2: u32,
-    pub c3: u32,
+struct Columns {
+    c0: u32,
+    c1: u32,
+    c2: u32,
+    c3: u32,
 }
 
 fn wide(b: u8) -> u32

@@ -3,6 +3,7 @@ use crate::aes;
 use crate::num;
 use crate::tables;
 ghost use mathlib.Core.Path.{_≡_};
+ghost use mathlib.Core.List.{_++_};
 ghost use Rattle.cipher.specs.Sbox.{sbox};
 ghost use Rattle.cipher.specs.Tables.{mixTable};
 ghost use Rattle.cipher.specs.Cmac.{xorBytes, shiftLeft, double, cmac};
@@ -166,5 +167,16 @@ pub fn cmac_tag(key: [u8; 16], message: &[u8]) -> [u8; 16]
     let end = CmacState::keyed(key)
         .absorb(&mix, &sub, message)
         .close(&mix, &sub);
+    end.block
+}
+
+// The tag of a message in two parts.
+pub fn cmac_tag_parts(key: [u8; 16], first: &[u8], second: &[u8]) -> [u8; 16]
+    ensures { λ r. ⌜ r ≡ cmac key (now (first .entry) ++ now (second .entry)) ⌝ }
+{
+    let mix = tables::mix_table();
+    let sub = tables::sbox_table();
+    let start = CmacState::keyed(key).absorb(&mix, &sub, first);
+    let end = start.absorb(&mix, &sub, second).close(&mix, &sub);
     end.block
 }
