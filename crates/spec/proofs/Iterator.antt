@@ -132,7 +132,7 @@ module _ (kv rbp prefix : List ℕ) (start : ℕ) (nameBuf : List ℕ) where
       }
 
   module _ (h : Iterable kv rbp prefix start nameBuf) where
-    next-is : nextMatch kv prefix start ≡ h .i
+    pub next-is : nextMatch kv prefix start ≡ h .i
     unfolding nextMatch
     next-is = match-is kv prefix start (h .i) (h .name) (h .found)
 

@@ -1,0 +1,5 @@
+pub mod LittleEndian
+pub mod Folds
+pub mod Place
+pub mod Valid
+pub mod Sealed

@@ -1,0 +1,26 @@
+-- `records::mac::record_cmac`: the CMAC under the name's AUTH key.
+use mathlib.Core.Path.{ap, _∙_}
+use mathlib.Core.List.{List, _++_}
+use Prim.Native.Nat.{ℕ}
+use borrow.Author.Needs.{needs}
+use Rattle.cipher.specs.Cmac.{cmac}
+use Rattle.spec.specs.Record.{authKey}
+use Rattle.records.specs.Parts.{cmacOver}
+use Rattle.records.proofs.mac.record_cmac.Statement.{statement}
+use Rattle.records.proofs.mac.record_cmac.Tie as tie
+
+derive-authentication-key-requires : tie.Need-derive-authentication-key-requires
+derive-authentication-key-requires c κs = search needs
+
+cmac-tag-parts-requires : tie.Need-cmac-tag-parts-requires
+cmac-tag-parts-requires c κs = search needs
+
+returns : tie.Need-returns
+unfolding cmacOver authKey
+returns c =
+    let a = c .before .before .before .before .args in
+    c .cmac-tag-parts .ensures ∙ ap (λ (k : List ℕ). cmac k (a .name .now ++ a .covered .now)) (c .before .derive-authentication-key .ensures)
+
+pub record-cmac-spec : {M : Type 1} → statement M
+record-cmac-spec =
+    tie.close (tie.spec derive-authentication-key-requires cmac-tag-parts-requires returns)

@@ -1,0 +1,26 @@
+-- `records::record::record_tag`: the last sixteen bytes.
+use native.Mathlib.Omega.{arith}
+use borrow.Author.Needs.{needs}
+use Rattle.spec.specs.Record.{revision1}
+use Rattle.records.proofs.Place.{rest-part}
+use Rattle.records.proofs.Valid.{valid-sized}
+use Rattle.records.proofs.record.record_tag.Statement.{statement}
+use Rattle.records.proofs.record.record_tag.Tie as tie
+
+sub-at : tie.Need-sub-at
+sub-at c = let s = valid-sized revision1 (c .args .r .now) (c .pre) in omega arith
+
+sub-result : tie.Need-sub-result
+sub-result c = search needs
+
+part-result-start : tie.Need-part-result-start
+part-result-start c = search needs
+
+part-result-end : tie.Need-part-result-end
+part-result-end c = search needs
+
+returns : tie.Need-returns
+returns c = rest-part (c .before .args .r .now) _
+
+pub record-tag-spec : {M : Type 1} → statement M
+record-tag-spec = tie.close (tie.spec sub-at sub-result part-result-start part-result-end returns)

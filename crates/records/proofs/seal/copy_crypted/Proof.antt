@@ -1,0 +1,56 @@
+-- `records::seal::copy_crypted`: counter mode under the name's ENC key, or the data as lent.
+use mathlib.Core.Path.{ap₂, _∙_}
+use mathlib.Core.List.{List}
+use Prim.Native.Nat.{ℕ}
+use native.Mathlib.Omega.{arith}
+use borrow.Author.Needs.{needs}
+use Rattle.cipher.specs.Ctr.{ctr}
+use Rattle.spec.specs.Record.{sealedData, crypt, encKey}
+use Rattle.records.proofs.Place.{copied}
+use Rattle.records.proofs.seal.copy_crypted.Statement.{statement}
+use Rattle.records.proofs.seal.copy_crypted.Tie as tie
+
+copy-requires : tie.Need-copy-requires
+copy-requires c κs = search needs
+
+require-confidentiality-requires : tie.Need-require-confidentiality-requires
+require-confidentiality-requires c κs = search needs
+
+derive-encryption-key-requires : tie.Need-derive-encryption-key-requires
+derive-encryption-key-requires c κs = search needs
+
+ctr-xor-requires : tie.Need-ctr-xor-requires
+ctr-xor-requires c κs = search needs
+
+same-length : tie.Need-same-length
+same-length c = search needs
+
+returns : tie.Need-returns
+unfolding sealedData crypt encKey
+returns c =
+    let a = c .before .before .before .before .before .before .before .before .before .before .before .before .before .before .args in
+    let same = c .before .before .before .before .before .before .before .before .before .copy .ensures .1 ∙ copied (a .src .now) _ (omega arith) in
+    rw (← (c .before .before .before .before .before .before .require-confidentiality .ensures), c .before .before .before .before .before .if1 .taken)
+    (c .before .before .ctr-xor .ensures ∙ ap₂ (λ (k v : List ℕ). ctr k (a .iv) v) (c .before .before .before .before .derive-encryption-key .ensures) same)
+
+same-length-2 : tie.Need-same-length-2
+same-length-2 c = search needs
+
+returns-2 : tie.Need-returns-2
+unfolding sealedData
+returns-2 c =
+    let a = c .before .before .before .before .before .before .before .before .before .args in
+    rw (← (c .before .require-confidentiality .ensures), c .if1 .left) (c .before .before .before .before .copy .ensures .1 ∙ copied (a .src .now) _ (omega arith))
+
+pub copy-crypted-spec : {M : Type 1} → statement M
+copy-crypted-spec =
+    tie.close
+    (tie.spec
+    copy-requires
+    require-confidentiality-requires
+    derive-encryption-key-requires
+    ctr-xor-requires
+    same-length
+    returns
+    same-length-2
+    returns-2)

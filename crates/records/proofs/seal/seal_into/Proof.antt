@@ -1,0 +1,68 @@
+-- `records::seal::seal_into`: metadata, data and CMAC stand side by side.
+use mathlib.Core.Path.{sym}
+use native.Mathlib.Omega.{arith}
+use lib.Seq.{length-take-le}
+use mir.Syntax.{w8}
+use borrow.Author.Needs.{needs}
+use Rattle.cipher.proofs.Arrays.{array-length}
+use Rattle.spec.specs.Record.{revision1}
+use Rattle.records.proofs.Sealed.{sealed-steps}
+use Rattle.records.proofs.seal.seal_into.Statement.{statement}
+use Rattle.records.proofs.seal.seal_into.Tie as tie
+
+add-covered : tie.Need-add-covered
+add-covered c = search needs
+
+cast-put-metadata : tie.Need-cast-put-metadata
+cast-put-metadata c = search needs
+
+sealed-iv-requires : tie.Need-sealed-iv-requires
+sealed-iv-requires c κs = search needs
+
+put-metadata-requires : tie.Need-put-metadata-requires
+put-metadata-requires c κs = search needs
+
+put-crypted-requires : tie.Need-put-crypted-requires
+put-crypted-requires c κs = search needs
+
+slice-reshare-prefix-sealed-tag : tie.Need-slice-reshare-prefix-sealed-tag
+slice-reshare-prefix-sealed-tag c = search needs
+
+slice-aggregate-sealed-tag : tie.Need-slice-aggregate-sealed-tag
+slice-aggregate-sealed-tag c = sym (length-take-le _ _ (omega arith))
+
+sealed-tag-requires : tie.Need-sealed-tag-requires
+sealed-tag-requires c κs = search needs
+
+slice-aggregate-put-bytes : tie.Need-slice-aggregate-put-bytes
+slice-aggregate-put-bytes c = search needs
+
+put-bytes-requires : tie.Need-put-bytes-requires
+put-bytes-requires c κs = search needs
+
+same-length : tie.Need-same-length
+same-length c = search needs
+
+returns : tie.Need-returns
+returns c =
+    let start = c .before .before .before .before .before .before .before .before .before .before .before .before .before .before .before .before .before .before .before in
+    let a = start .args in
+    sealed-steps revision1 (a .device-key) (a .name .now) (a .flags) (a .iv) (a .value .now) (array-length w8 8 (a .iv) _ (start .good .1 .1 .1 .0))
+    (a .record-buf .now) _ _ _ _ _ (c .before .before .before .before .before .before .before .before .before .before .before .before .before .before .before .sealed-iv .ensures) (c .before .before .before .before .before .before .before .before .before .before .before .before .before .put-metadata .ensures) (c .before .before .before .before .before .before .before .before .before .put-crypted .ensures) (c .before .before .before .before .before .sealed-tag .ensures) (c .before .before .put-bytes .ensures)
+
+pub seal-into-spec : {M : Type 1} → statement M
+seal-into-spec =
+    tie.close
+    (tie.spec
+    add-covered
+    cast-put-metadata
+    sealed-iv-requires
+    put-metadata-requires
+    put-crypted-requires
+    slice-reshare-prefix-sealed-tag
+    slice-aggregate-sealed-tag
+    sealed-tag-requires
+    slice-aggregate-put-bytes
+    put-bytes-requires
+    same-length
+    returns)

@@ -1,0 +1,30 @@
+-- Definitions of spec in the parts that the code computes.
+use mathlib.Core.Bool.{Bool, cond, _&&_, _||_}
+use mathlib.Core.List.{List, _++_}
+use Prim.Native.Nat.{ℕ, _+_}
+use lib.Dec.{eqb, leb}
+use lib.ListN.{length, take, drop}
+use Rattle.cipher.specs.Cmac.{cmac}
+use Rattle.spec.specs.Bytes.{zeros, allZero}
+use Rattle.spec.specs.Name.{Name}
+use Rattle.spec.specs.Record.{requireConfidentiality, requireIntegrity, validFlags, maxDataSize, metadataSizeOf, revisionOf, dataSizeOf, flagsOf, ivOf, tagOf, authKey}
+
+-- `recordValid` in two halves: what the metadata says, and the zeros
+unfoldable pub fieldsValid : ℕ → List ℕ → Bool
+fieldsValid revision r =
+    eqb (metadataSizeOf r) 20 && (eqb (revisionOf r) revision && (validFlags (flagsOf r) && (leb (dataSizeOf r) maxDataSize && eqb (length r) (dataSizeOf r + 36))))
+
+unfoldable pub zerosValid : List ℕ → Bool
+zerosValid r = (requireConfidentiality (flagsOf r) || allZero (ivOf r)) && (requireIntegrity (flagsOf r) || allZero (tagOf r))
+
+-- `recordCmac`, of metadata and data as stored that stand side by side
+unfoldable pub cmacOver : List ℕ → Name → List ℕ → List ℕ
+cmacOver key name covered = cmac (authKey key name) (name ++ covered)
+
+-- `sealedTag`, of the same
+unfoldable pub tagOver : List ℕ → Name → ℕ → List ℕ → List ℕ
+tagOver key name flags covered = cond (requireIntegrity flags) (cmacOver key name covered) (zeros 16)
+
+-- a byte string with s in the place of its bytes from `at` on
+abbrev pub putAt : List ℕ → ℕ → List ℕ → List ℕ
+putAt d at s = take at d ++ (s ++ drop (at + length s) d)

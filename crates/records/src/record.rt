@@ -1,0 +1,78 @@
+// A stored record: whether it is valid, and its fields. Metadata size at 0, revision at 2, data size at 4, flags at 8, IV at 12,
+// data at 20, the CMAC in the last 16 bytes.
+use crate::compare;
+use crate::flags;
+use crate::numbers;
+ghost use mathlib.Core.Path.{_≡_};
+ghost use mathlib.Core.Bool.{true, _||_};
+ghost use lib.ListN.{length};
+ghost use Prim.Native.Nat.{_≤_};
+ghost use Rattle.spec.specs.Bytes.{allZero};
+ghost use Rattle.spec.specs.Record.{revision1, dataSizeOf, flagsOf, tagOf, recordValid};
+ghost use Rattle.records.specs.Parts.{fieldsValid, zerosValid};
+
+// The revision that is written, and the only one accepted.
+pub const REVISION: u32 = 1;
+
+// 01: "well formed". A record that is too short has no field to look at.
+pub fn record_valid(r: &[u8]) -> bool
+    ensures { λ v. ⌜ v ≡ recordValid revision1 (now (r .entry)) ⌝ }
+{
+    if r.len() < 36 {
+        return false;
+    }
+    fields_valid(r) && zeros_valid(r)
+}
+
+// The metadata says what the record is.
+fn fields_valid(r: &[u8]) -> bool
+    requires { ⌜ 36 ≤ length (now r) ⌝ }
+    ensures { λ v. ⌜ v ≡ fieldsValid revision1 (now (r .entry)) ⌝ }
+{
+    let size = numbers::u32_at(r, 4);
+    numbers::u16_at(r, 0) == 20
+        && (numbers::u16_at(r, 2) == REVISION
+            && (flags::valid_flags(numbers::u32_at(r, 8))
+                && (size <= 480 && r.len() == size as usize + 36)))
+}
+
+fn zero_unless(asked: bool, part: &[u8]) -> bool
+    ensures { λ v. ⌜ v ≡ (asked || allZero (now (part .entry))) ⌝ }
+{
+    asked || compare::all_zero(part)
+}
+
+// IV and CMAC are zero where the flags do not ask for them.
+fn zeros_valid(r: &[u8]) -> bool
+    requires { ⌜ 36 ≤ length (now r) ⌝ }
+    ensures { λ v. ⌜ v ≡ zerosValid (now (r .entry)) ⌝ }
+{
+    let n = r.len();
+    let flags = numbers::u32_at(r, 8);
+    let tag = n - 16;
+    zero_unless(flags::require_confidentiality(flags), &r[12..20])
+        && zero_unless(flags::require_integrity(flags), &r[tag..])
+}
+
+pub fn record_flags(r: &[u8]) -> u32
+    requires { ⌜ recordValid revision1 (now r) ≡ true ⌝ }
+    ensures { λ f. ⌜ f ≡ flagsOf (now (r .entry)) ⌝ }
+{
+    numbers::u32_at(r, 8)
+}
+
+pub fn record_data_size(r: &[u8]) -> u32
+    requires { ⌜ recordValid revision1 (now r) ≡ true ⌝ }
+    ensures { λ n. ⌜ n ≡ dataSizeOf (now (r .entry)) ⌝ }
+{
+    numbers::u32_at(r, 4)
+}
+
+// The CMAC as stored.
+pub fn record_tag<'a>(r: &'a [u8]) -> &'a [u8]
+    requires { ⌜ recordValid revision1 (now r) ≡ true ⌝ }
+    ensures { λ t. ⌜ now t ≡ tagOf (now (r .entry)) ⌝ }
+{
+    let at = r.len() - 16;
+    &r[at..]
+}

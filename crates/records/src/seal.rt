@@ -1,0 +1,124 @@
+// Making a record.
+use crate::arrays;
+use crate::flags;
+use crate::mac;
+use crate::numbers;
+use crate::record;
+ghost use mathlib.Core.Path.{_≡_};
+ghost use mathlib.Core.List.{_++_};
+ghost use Prim.Native.Nat.{_+_, _≤_};
+ghost use lib.ListN.{length, drop};
+ghost use Rattle.spec.specs.Bytes.{zeroFill};
+ghost use Rattle.spec.specs.Record.{revision1, metadata, sealedIv, sealedData, sealRecord};
+ghost use Rattle.records.specs.Parts.{putAt, tagOver};
+
+fn put_metadata(revision: u32, data_size: u32, flags: u32, iv: [u8; 8], dst: &mut [u8])
+    requires { ⌜ 20 ≤ length (now dst) ⌝ }
+    ensures { λ _. ⌜ now (dst .exit) ≡ metadata revision «data_size» flags iv ++ drop 20 (now (dst .entry)) ⌝ }
+{
+    numbers::put_u16(20, dst, 0);
+    numbers::put_u16(revision, dst, 2);
+    numbers::put_u32(data_size, dst, 4);
+    numbers::put_u32(flags, dst, 8);
+    arrays::put_bytes(&iv, dst, 12);
+}
+
+// Without confidentiality the IV is zero, whatever was lent.
+fn sealed_iv(flags: u32, iv: [u8; 8]) -> [u8; 8]
+    ensures { λ r. ⌜ r ≡ sealedIv flags iv ⌝ }
+{
+    if flags::require_confidentiality(flags) {
+        iv
+    } else {
+        [0; 8]
+    }
+}
+
+// Data copied, and encrypted or decrypted where the flags ask for confidentiality.
+fn copy_crypted(
+    device_key: [u8; 16],
+    name: &[u8],
+    flags: u32,
+    iv: [u8; 8],
+    src: &[u8],
+    dst: &mut [u8],
+)
+    requires { ⌜ length (now src) ≡ length (now dst) ⌝ }
+    ensures { λ _. ⌜ now (dst .exit) ≡ sealedData «device_key» (now (name .entry)) flags iv (now (src .entry)) ⌝ }
+{
+    bytes::copy(src, dst);
+    if flags::require_confidentiality(flags) {
+        let key = cipher::kdf::derive_encryption_key(device_key, name);
+        cipher::ctr::ctr_xor(key, iv, dst);
+    }
+}
+
+pub(crate) fn put_crypted(
+    device_key: [u8; 16],
+    name: &[u8],
+    flags: u32,
+    iv: [u8; 8],
+    src: &[u8],
+    dst: &mut [u8],
+    at: usize,
+)
+    requires { ⌜ at + length (now src) ≤ length (now dst) ⌝ }
+    ensures { λ _. ⌜ now (dst .exit) ≡ putAt (now (dst .entry)) at (sealedData «device_key» (now (name .entry)) flags iv (now (src .entry))) ⌝ }
+{
+    let end = at + src.len();
+    copy_crypted(device_key, name, flags, iv, src, &mut dst[at..end]);
+}
+
+// Without integrity the CMAC is zero.
+fn sealed_tag(device_key: [u8; 16], name: &[u8], flags: u32, covered: &[u8]) -> [u8; 16]
+    ensures { λ r. ⌜ r ≡ tagOver «device_key» (now (name .entry)) flags (now (covered .entry)) ⌝ }
+{
+    if flags::require_integrity(flags) {
+        mac::record_cmac(device_key, name, covered)
+    } else {
+        [0; 16]
+    }
+}
+
+// A record at the front of a buffer.
+fn seal_into(
+    device_key: [u8; 16],
+    name: &[u8],
+    flags: u32,
+    iv: [u8; 8],
+    value: &[u8],
+    record_buf: &mut [u8],
+)
+    requires { ⌜ length (now value) + 36 ≤ length (now «record_buf») ⌝ }
+    requires { ⌜ length (now «record_buf») ≤ 516 ⌝ }
+    ensures { λ _. ⌜ now («record_buf» .exit) ≡ sealRecord revision1 «device_key» (now (name .entry)) flags iv (now (value .entry)) ++ drop (length (now (value .entry)) + 36) (now («record_buf» .entry)) ⌝ }
+{
+    let n = value.len();
+    let covered = n + 20;
+    put_metadata(
+        record::REVISION,
+        n as u32,
+        flags,
+        sealed_iv(flags, iv),
+        record_buf,
+    );
+    put_crypted(device_key, name, flags, iv, value, record_buf, 20);
+    let tag = sealed_tag(device_key, name, flags, &record_buf[..covered]);
+    arrays::put_bytes(&tag, record_buf, covered);
+}
+
+// 01: the "working record", which starts as all zeros.
+pub fn seal_record(
+    device_key: [u8; 16],
+    name: &[u8],
+    flags: u32,
+    iv: [u8; 8],
+    value: &[u8],
+) -> [u8; 516]
+    requires { ⌜ length (now value) ≤ 480 ⌝ }
+    ensures { λ r. ⌜ r ≡ zeroFill 516 (sealRecord revision1 «device_key» (now (name .entry)) flags iv (now (value .entry))) ⌝ }
+{
+    let mut record_buf = [0u8; 516];
+    seal_into(device_key, name, flags, iv, value, &mut record_buf);
+    record_buf
+}

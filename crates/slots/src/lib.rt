@@ -1,0 +1,10 @@
+// The slot areas of the card and of the chip, as the flat buffers that are lent. One code for both: each function is told which.
+pub mod areas;
+pub mod names;
+mod slot;
+
+// 01's "card" and "chip"
+pub enum AreaKind {
+    Kv,
+    Rbp,
+}

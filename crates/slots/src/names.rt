@@ -1,0 +1,75 @@
+// Tests on byte strings and on names.
+ghost use mathlib.Core.Path.{_≡_};
+ghost use Rattle.spec.specs.Bytes.{every, allZero, bytesEq};
+ghost use Rattle.spec.specs.Name.{validNameByte, validName, validPrefix};
+
+// An or over all bytes with one test after it: such a loop is vectorised.
+pub fn all_zero(s: &[u8]) -> bool
+    ensures { λ r. ⌜ r ≡ allZero (now (s .entry)) ⌝ }
+{
+    let mut seen: u8 = 0;
+    let mut i = 0;
+    while i < s.len() {
+        seen = seen | s[i];
+        i += 1;
+    }
+    seen == 0
+}
+
+// Of equal lengths, all bytes are compared, wherever the first difference stands.
+pub fn bytes_equal(a: &[u8], b: &[u8]) -> bool
+    ensures { λ r. ⌜ r ≡ bytesEq (now (a .entry)) (now (b .entry)) ⌝ }
+{
+    if a.len() != b.len() {
+        return false;
+    }
+    let mut diff: u8 = 0;
+    let mut i = 0;
+    while i < a.len() {
+        diff = diff | (a[i] ^ b[i]);
+        i += 1;
+    }
+    diff == 0
+}
+
+fn valid_name_byte(b: u8) -> bool
+    ensures { λ r. ⌜ r ≡ validNameByte b ⌝ }
+{
+    if b < 0x21 {
+        return false;
+    }
+    b <= 0x7e
+}
+
+fn valid_name_bytes(s: &[u8]) -> bool
+    ensures { λ r. ⌜ r ≡ every validNameByte (now (s .entry)) ⌝ }
+{
+    let mut i = 0;
+    while i < s.len() {
+        if !valid_name_byte(s[i]) {
+            return false;
+        }
+        i += 1;
+    }
+    true
+}
+
+// 01: "good name"
+pub fn valid_name(name: &[u8]) -> bool
+    ensures { λ r. ⌜ r ≡ validName (now (name .entry)) ⌝ }
+{
+    if name.len() < 1 {
+        return false;
+    }
+    valid_prefix(name)
+}
+
+// 01: the prefix of a "walk"
+pub fn valid_prefix(p: &[u8]) -> bool
+    ensures { λ r. ⌜ r ≡ validPrefix (now (p .entry)) ⌝ }
+{
+    if 64 < p.len() {
+        return false;
+    }
+    valid_name_bytes(p)
+}

@@ -1,0 +1,185 @@
+// One slot: where its parts stand, whether it is well shaped, who uses it, and how it is written.
+use crate::AreaKind;
+use crate::names;
+ghost use mathlib.Core.Path.{_≡_};
+ghost use mathlib.Core.Bool.{true};
+ghost use mathlib.Core.List.{_++_};
+ghost use Prim.Native.Nat.{_+_, _≤_};
+ghost use lib.ListN.{length, take, drop};
+ghost use Rattle.spec.specs.Bytes.{zeros};
+ghost use Rattle.spec.specs.Area.{payloadSize, slotName, slotPayload, slotUsed, slotValid, holds, makeSlot};
+ghost use Rattle.spec.specs.Calls.{hasPrefix, slotHasPrefix};
+ghost use Rattle.slots.specs.Kind.{formatOf};
+
+pub(crate) fn slot_size(kind: AreaKind) -> usize
+    ensures { λ r. ⌜ r ≡ formatOf kind .slotSize ⌝ }
+{
+    match kind {
+        AreaKind::Kv => 584,
+        AreaKind::Rbp => 82,
+    }
+}
+
+pub(crate) fn name_offset(kind: AreaKind) -> usize
+    ensures { λ r. ⌜ r ≡ formatOf kind .nameOffset ⌝ }
+{
+    match kind {
+        AreaKind::Kv => 4,
+        AreaKind::Rbp => 2,
+    }
+}
+
+pub(crate) fn payload_offset(kind: AreaKind) -> usize
+    ensures { λ r. ⌜ r ≡ formatOf kind .payloadOffset ⌝ }
+{
+    match kind {
+        AreaKind::Kv => 68,
+        AreaKind::Rbp => 66,
+    }
+}
+
+// How many bytes a slot says that it holds, which may be more than it can.
+fn payload_len(kind: AreaKind, slot: &[u8]) -> usize
+    requires { ⌜ length (now slot) ≡ formatOf kind .slotSize ⌝ }
+    ensures { λ r. ⌜ r ≡ formatOf kind .payloadLength (now (slot .entry)) ⌝ }
+{
+    match kind {
+        AreaKind::Kv => slot[2] as usize + 256 * (slot[3] as usize),
+        AreaKind::Rbp => 16,
+    }
+}
+
+// 01: a used slot, well shaped. What the slot says of lengths is bounded before it is an index.
+fn slot_used(kind: AreaKind, slot: &[u8]) -> bool
+    requires { ⌜ length (now slot) ≡ formatOf kind .slotSize ⌝ }
+    ensures { λ r. ⌜ r ≡ slotUsed (formatOf kind) (now (slot .entry)) ⌝ }
+{
+    if slot[0] != 1 {
+        return false;
+    }
+    let n = slot[1] as usize;
+    if 64 < n {
+        return false;
+    }
+    let at = name_offset(kind);
+    let after = at + n;
+    if !names::valid_name(&slot[at..after]) {
+        return false;
+    }
+    let payload = payload_offset(kind);
+    let m = payload_len(kind, slot);
+    if slot.len() - payload < m {
+        return false;
+    }
+    if !names::all_zero(&slot[after..payload]) {
+        return false;
+    }
+    let end = payload + m;
+    names::all_zero(&slot[end..])
+}
+
+// 01: "well shaped"
+pub(crate) fn slot_valid(kind: AreaKind, slot: &[u8]) -> bool
+    requires { ⌜ length (now slot) ≡ formatOf kind .slotSize ⌝ }
+    ensures { λ r. ⌜ r ≡ slotValid (formatOf kind) (now (slot .entry)) ⌝ }
+{
+    if slot[0] == 0 {
+        names::all_zero(slot)
+    } else {
+        slot_used(kind, slot)
+    }
+}
+
+pub(crate) fn slot_name<'a>(kind: AreaKind, slot: &'a [u8]) -> &'a [u8]
+    requires { ⌜ (length (now slot) ≡ formatOf kind .slotSize) × (slotUsed (formatOf kind) (now slot) ≡ true) ⌝ }
+    ensures { λ r. ⌜ now r ≡ slotName (formatOf kind) (now (slot .entry)) ⌝ }
+{
+    let n = slot[1] as usize;
+    let at = name_offset(kind);
+    let end = at + n;
+    &slot[at..end]
+}
+
+pub(crate) fn slot_payload<'a>(kind: AreaKind, slot: &'a [u8]) -> &'a [u8]
+    requires { ⌜ (length (now slot) ≡ formatOf kind .slotSize) × (slotUsed (formatOf kind) (now slot) ≡ true) ⌝ }
+    ensures { λ r. ⌜ now r ≡ slotPayload (formatOf kind) (now (slot .entry)) ⌝ }
+{
+    let m = payload_len(kind, slot);
+    let at = payload_offset(kind);
+    let end = at + m;
+    &slot[at..end]
+}
+
+pub(crate) fn slot_holds(kind: AreaKind, slot: &[u8], name: &[u8]) -> bool
+    requires { ⌜ (length (now slot) ≡ formatOf kind .slotSize) × (slotValid (formatOf kind) (now slot) ≡ true) ⌝ }
+    ensures { λ r. ⌜ r ≡ holds (formatOf kind) (now (name .entry)) (now (slot .entry)) ⌝ }
+{
+    if slot[0] == 0 {
+        return false;
+    }
+    names::bytes_equal(name, slot_name(kind, slot))
+}
+
+fn has_prefix(name: &[u8], prefix: &[u8]) -> bool
+    ensures { λ r. ⌜ r ≡ hasPrefix (now (prefix .entry)) (now (name .entry)) ⌝ }
+{
+    let n = prefix.len();
+    if name.len() < n {
+        return false;
+    }
+    names::bytes_equal(prefix, &name[0..n])
+}
+
+pub(crate) fn slot_has_prefix(slot: &[u8], prefix: &[u8]) -> bool
+    requires { ⌜ (length (now slot) ≡ formatOf AreaKind.Kv .slotSize) × (slotValid (formatOf AreaKind.Kv) (now slot) ≡ true) ⌝ }
+    ensures { λ r. ⌜ r ≡ slotHasPrefix (now (prefix .entry)) (now (slot .entry)) ⌝ }
+{
+    if slot[0] == 0 {
+        return false;
+    }
+    has_prefix(slot_name(AreaKind::Kv, slot), prefix)
+}
+
+pub(crate) fn clear(part: &mut [u8])
+    ensures { λ _. ⌜ now (part .exit) ≡ zeros (length (now (part .entry))) ⌝ }
+{
+    let mut i = 0;
+    while i < part.len() {
+        part[i] = 0;
+        i += 1;
+    }
+}
+
+fn paste(dst: &mut [u8], at: usize, src: &[u8])
+    requires { ⌜ at + length (now src) ≤ length (now dst) ⌝ }
+    ensures { λ _. ⌜ now (dst .exit) ≡ take at (now (dst .entry)) ++ (now (src .entry) ++ drop (at + length (now (src .entry))) (now (dst .entry))) ⌝ }
+{
+    let end = at + src.len();
+    bytes::copy(src, &mut dst[at..end]);
+}
+
+fn put_header(kind: AreaKind, slot: &mut [u8], name: &[u8], payload: &[u8])
+    requires { ⌜ (length (now slot) ≡ formatOf kind .slotSize) × (length (now name) ≤ 64) × (length (now payload) ≤ 516) ⌝ }
+    ensures { λ _. ⌜ now (slot .exit) ≡ formatOf kind .header (now (name .entry)) (now (payload .entry)) ++ drop (formatOf kind .nameOffset) (now (slot .entry)) ⌝ }
+{
+    slot[0] = 1;
+    slot[1] = name.len() as u8;
+    match kind {
+        AreaKind::Kv => {
+            slot[2] = (payload.len() % 256) as u8;
+            slot[3] = (payload.len() / 256 % 256) as u8;
+        }
+        AreaKind::Rbp => {}
+    }
+}
+
+// The whole slot anew, so that nothing of the old one is left behind the name or the payload.
+pub(crate) fn make_slot(kind: AreaKind, slot: &mut [u8], name: &[u8], payload: &[u8])
+    requires { ⌜ (length (now slot) ≡ formatOf kind .slotSize) × (length (now name) ≤ 64) × (length (now payload) ≤ payloadSize (formatOf kind)) ⌝ }
+    ensures { λ _. ⌜ now (slot .exit) ≡ makeSlot (formatOf kind) (now (name .entry)) (now (payload .entry)) ⌝ }
+{
+    clear(slot);
+    put_header(kind, slot, name, payload);
+    paste(slot, name_offset(kind), name);
+    paste(slot, payload_offset(kind), payload);
+}

@@ -1,0 +1,4 @@
+pub mod Tests
+pub mod Guards
+pub mod Slices
+pub mod Outcome

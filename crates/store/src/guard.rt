@@ -1,0 +1,43 @@
+// The tests that come first in every call but reset.
+use crate::status;
+use slots::AreaKind;
+use slots::areas;
+ghost use mathlib.Core.Path.{_≡_};
+ghost use mathlib.Core.Bool.{_&&_};
+ghost use Prim.Native.Nat.{min};
+ghost use Rattle.spec.specs.Status.{ok};
+ghost use Rattle.spec.specs.Calls.{areasSized, areasIntact, guarded};
+
+// Lengths (1) and damage (2); `lengths` says whether the call's other lengths are right.
+pub(crate) fn guard_areas(kv: &[u8], rbp: &[u8], lengths: bool) -> u32
+    ensures { λ r. ⌜ r ≡ guarded (areasSized (now (kv .entry)) (now (rbp .entry)) && lengths) (areasIntact (now (kv .entry)) (now (rbp .entry))) ok ⌝ }
+{
+    if !areas::area_sized(AreaKind::Kv, kv) {
+        return status::ERR_LENGTH;
+    }
+    if !areas::area_sized(AreaKind::Rbp, rbp) {
+        return status::ERR_LENGTH;
+    }
+    if !lengths {
+        return status::ERR_LENGTH;
+    }
+    if !areas::area_intact(AreaKind::Kv, kv) {
+        return status::ERR_CORRUPT;
+    }
+    if !areas::area_intact(AreaKind::Rbp, rbp) {
+        return status::ERR_CORRUPT;
+    }
+    status::OK
+}
+
+pub(crate) fn both(a: bool, b: bool) -> bool
+    ensures { λ r. ⌜ r ≡ (a && b) ⌝ }
+{
+    if a { b } else { false }
+}
+
+pub(crate) fn least(a: usize, b: usize) -> usize
+    ensures { λ r. ⌜ r ≡ min a b ⌝ }
+{
+    if a < b { a } else { b }
+}

@@ -1,0 +1,21 @@
+// Reset: both areas are cleared, whatever they hold.
+use crate::status;
+use slots::AreaKind;
+use slots::areas;
+ghost use mathlib.Core.Path.{_≡_};
+ghost use Rattle.spec.specs.Calls as Calls;
+ghost use Rattle.store.specs.Answers.{written};
+
+pub fn reset(kv: &mut [u8], rbp: &mut [u8]) -> u32
+    ensures { λ r. ⌜ written r (now (kv .exit)) (now (rbp .exit)) ≡ Calls.storeReset (now (kv .entry)) (now (rbp .entry)) ⌝ }
+{
+    if !areas::area_sized(AreaKind::Kv, kv) {
+        return status::ERR_LENGTH;
+    }
+    if !areas::area_sized(AreaKind::Rbp, rbp) {
+        return status::ERR_LENGTH;
+    }
+    areas::clear(kv);
+    areas::clear(rbp);
+    status::OK
+}
