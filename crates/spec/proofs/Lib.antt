@@ -13,7 +13,9 @@ pub mod Get
 pub mod Decision
 pub mod Set
 pub mod Remove
+pub mod Reset
 pub mod Iterator
+pub mod Refusals
 pub mod Interleaving
 pub mod Model
 pub mod Request

@@ -1,13 +1,16 @@
 -- Every statement of `specs/`, with its proof.
 use Rattle.spec.specs.Demands.{Demand1, Demand2, ClientIsolation}
-use Rattle.spec.specs.Facts.{RemoveExact, IteratorExact}
+use Rattle.spec.specs.Facts.{RemoveExact, ResetExact, IteratorExact}
+use Rattle.spec.specs.Refusals.{RefusalsOrdered}
 use Rattle.spec.specs.Edges.{Edges}
 use Rattle.spec.proofs.Demand1.{demand1-holds}
 use Rattle.spec.proofs.Get.{get-exact, info-exact}
 use Rattle.spec.proofs.Set.{set-exact, round-trip, set-stores}
 use Rattle.spec.proofs.Isolation.{client-isolation}
 use Rattle.spec.proofs.Remove.{remove-exact}
+use Rattle.spec.proofs.Reset.{reset-exact}
 use Rattle.spec.proofs.Iterator.{iterator-exact}
+use Rattle.spec.proofs.Refusals.{refusals-ordered}
 use Rattle.spec.proofs.Edges.{edges-hold}
 
 pub demand1 : Demand1
@@ -22,8 +25,14 @@ demand3 = client-isolation
 pub remove : RemoveExact
 remove = remove-exact
 
+pub reset : ResetExact
+reset = reset-exact
+
 pub iterator-next : IteratorExact
 iterator-next = iterator-exact
+
+pub refusals : RefusalsOrdered
+refusals = refusals-ordered
 
 pub edges : Edges
 edges = edges-hold

@@ -10,4 +10,5 @@ pub mod Interleaving
 pub mod Model
 pub mod Demands
 pub mod Facts
+pub mod Refusals
 pub mod Edges
