@@ -19,6 +19,7 @@ pub mod Refusals
 pub mod Interleaving
 pub mod Model
 pub mod Request
+pub mod ModelFacts
 pub mod Effect
 pub mod Isolation
 pub mod Instance

@@ -48,7 +48,7 @@ unfolding refuseIf
 either true b n next f = f
 either false b n next f = f
 
-not-both : {l : List Refusal} (a b : Bool) (n next : ℕ) → FirstOf l (refuseIf (not a) n (refuseIf (not b) n next)) → FirstOf l (refuseIf (not (a && b)) n next)
+pub not-both : {l : List Refusal} (a b : Bool) (n next : ℕ) → FirstOf l (refuseIf (not a) n (refuseIf (not b) n next)) → FirstOf l (refuseIf (not (a && b)) n next)
 unfolding refuseIf
 not-both true b n next f = f
 not-both false b n next f = f

@@ -2,6 +2,7 @@
 use Rattle.spec.specs.Demands.{Demand1, Demand2, ClientIsolation}
 use Rattle.spec.specs.Facts.{RemoveExact, ResetExact, IteratorExact}
 use Rattle.spec.specs.Refusals.{RefusalsOrdered}
+use Rattle.spec.specs.ModelFacts.{ModelOrdered, ModelExact}
 use Rattle.spec.specs.Edges.{Edges}
 use Rattle.spec.proofs.Demand1.{demand1-holds}
 use Rattle.spec.proofs.Get.{get-exact, info-exact}
@@ -11,6 +12,7 @@ use Rattle.spec.proofs.Remove.{remove-exact}
 use Rattle.spec.proofs.Reset.{reset-exact}
 use Rattle.spec.proofs.Iterator.{iterator-exact}
 use Rattle.spec.proofs.Refusals.{refusals-ordered}
+use Rattle.spec.proofs.ModelFacts.{model-ordered, model-exact}
 use Rattle.spec.proofs.Edges.{edges-hold}
 
 pub demand1 : Demand1
@@ -33,6 +35,12 @@ iterator-next = iterator-exact
 
 pub refusals : RefusalsOrdered
 refusals = refusals-ordered
+
+pub model-refusals : ModelOrdered
+model-refusals = model-ordered
+
+pub model : ModelExact
+model = model-exact
 
 pub edges : Edges
 edges = edges-hold

@@ -11,4 +11,5 @@ pub mod Model
 pub mod Demands
 pub mod Facts
 pub mod Refusals
+pub mod ModelFacts
 pub mod Edges
