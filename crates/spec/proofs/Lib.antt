@@ -24,4 +24,5 @@ pub mod Effect
 pub mod Isolation
 pub mod Instance
 pub mod Edges
+pub mod Bounds
 pub mod Theorems

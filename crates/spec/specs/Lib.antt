@@ -13,3 +13,4 @@ pub mod Facts
 pub mod Refusals
 pub mod ModelFacts
 pub mod Edges
+pub mod Bounds
