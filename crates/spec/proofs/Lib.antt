@@ -25,4 +25,5 @@ pub mod Isolation
 pub mod Instance
 pub mod Edges
 pub mod Bounds
+pub mod Shapes
 pub mod Theorems

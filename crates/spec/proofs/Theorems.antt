@@ -5,6 +5,7 @@ use Rattle.spec.specs.Refusals.{RefusalsOrdered}
 use Rattle.spec.specs.ModelFacts.{ModelOrdered, ModelExact}
 use Rattle.spec.specs.Edges.{Edges}
 use Rattle.spec.specs.Bounds.{Bounds}
+use Rattle.spec.specs.Shapes.{Shapes}
 use Rattle.spec.proofs.Demand1.{demand1-holds}
 use Rattle.spec.proofs.Get.{get-exact, info-exact}
 use Rattle.spec.proofs.Set.{set-exact, round-trip, set-stores}
@@ -16,6 +17,7 @@ use Rattle.spec.proofs.Refusals.{refusals-ordered}
 use Rattle.spec.proofs.ModelFacts.{model-ordered, model-exact}
 use Rattle.spec.proofs.Edges.{edges-hold}
 use Rattle.spec.proofs.Bounds.{bounds-hold}
+use Rattle.spec.proofs.Shapes.{shapes-hold}
 
 pub demand1 : Demand1
 demand1 = demand1-holds
@@ -46,6 +48,9 @@ model = model-exact
 
 pub edges : Edges
 edges = edges-hold
+
+pub shapes : Shapes
+shapes = shapes-hold
 
 pub bounds : Bounds
 bounds = bounds-hold

@@ -14,3 +14,4 @@ pub mod Refusals
 pub mod ModelFacts
 pub mod Edges
 pub mod Bounds
+pub mod Shapes

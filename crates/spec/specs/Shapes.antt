@@ -1,0 +1,88 @@
+-- 01's tests of one thing, from the layout: what a name, flags, a length, a record and a slot are that pass them.
+use mathlib.Core.Path.{_≡_}
+use mathlib.Core.Logic.{_⊎_, _↔_}
+use mathlib.Core.Bool.{true, false}
+use mathlib.Core.List.{List, _∷_, _++_}
+use Prim.Native.Nat.{ℕ, _-_, _*_, _≤_, _<_}
+use lib.ListN.{length, getD}
+use Rattle.spec.specs.Bytes.{zeros, leBytes}
+use Rattle.spec.specs.Name.{Name, validName, validPrefix}
+use Rattle.spec.specs.Record.{requireConfidentiality, requireIntegrity, validFlags, revision1, recordValid}
+use Rattle.spec.specs.Area.{kvFormat, rbpFormat, slotUsed, sized}
+
+-- each element is at most 255
+abbrev pub AreBytes : List ℕ → Type 0
+AreBytes l = (i : ℕ) → getD l i 0 < 256
+
+-- "each 0x21 to 0x7E"
+abbrev pub Printable : List ℕ → Type 0
+Printable l = (i : ℕ) → i < length l → (0x21 ≤ getD l i 0) × (getD l i 0 ≤ 0x7e)
+
+-- "A good name has 1 to 64 bytes", a prefix 0 to 64
+abbrev pub NameShape : Type 0
+NameShape = (name : Name) → (validName name ≡ true) ↔ ((1 ≤ length name) × (length name ≤ 64) × Printable name)
+
+abbrev pub PrefixShape : Type 0
+PrefixShape = (prefix : List ℕ) → (validPrefix prefix ≡ true) ↔ ((length prefix ≤ 64) × Printable prefix)
+
+-- good flags are 0 to 7 and 12 to 15
+abbrev pub GoodFlags : ℕ → Type 0
+GoodFlags flags = (flags ≤ 7) ⊎ ((12 ≤ flags) × (flags ≤ 15))
+
+abbrev pub FlagsShape : Type 0
+FlagsShape = (flags : ℕ) → (validFlags flags ≡ true) ↔ GoodFlags flags
+
+-- "1 to 64 places of 584 bytes", "1 to 64 entries of 82 bytes"
+abbrev pub Multiple : ℕ → List ℕ → Type 0
+Multiple size area = (k : ℕ) × (1 ≤ k) × (k ≤ 64) × (length area ≡ k * size)
+
+pub record SizedShape : Type 0 where
+  pub kv : (area : List ℕ) → (sized kvFormat area ≡ true) ↔ Multiple 584 area
+  pub rbp : (area : List ℕ) → (sized rbpFormat area ≡ true) ↔ Multiple 82 area
+
+-- 01: "well formed"
+pub record WellFormed (r : List ℕ) : Type 0 where
+  pub size : ℕ
+  pub flags : ℕ
+  pub iv : List ℕ
+  pub stored : List ℕ
+  pub tag : List ℕ
+  pub layout : r ≡ 0x14 ∷ 0x00 ∷ 0x01 ∷ 0x00 ∷ (leBytes 4 size ++ (leBytes 4 flags ++ (iv ++ (stored ++ tag))))
+  pub size-bound : size ≤ 480
+  pub flags-good : GoodFlags flags
+  pub iv-length : length iv ≡ 8
+  pub stored-length : length stored ≡ size
+  pub tag-length : length tag ≡ 16
+  pub iv-zero : requireConfidentiality flags ≡ false → iv ≡ zeros 8
+  pub tag-zero : requireIntegrity flags ≡ false → tag ≡ zeros 16
+
+abbrev pub RecordShape : Type 0
+RecordShape = (r : List ℕ) → AreBytes r → (recordValid revision1 r ≡ true) ↔ WellFormed r
+
+-- 01: a used place: 01, name length, record length, name and zeros to 64, record and zeros to 516
+pub record UsedPlace (slot : List ℕ) : Type 0 where
+  pub name : Name
+  pub payload : List ℕ
+  pub name-valid : validName name ≡ true
+  pub payload-length : length payload ≤ 516
+  pub layout : slot ≡ 1 ∷ length name ∷ (leBytes 2 (length payload) ++ ((name ++ zeros (64 - length name)) ++ (payload ++ zeros (516 - length payload))))
+
+-- 01: a used entry: 01, name length, name and zeros to 64, CMAC
+pub record UsedEntry (slot : List ℕ) : Type 0 where
+  pub name : Name
+  pub payload : List ℕ
+  pub name-valid : validName name ≡ true
+  pub payload-length : length payload ≡ 16
+  pub layout : slot ≡ 1 ∷ length name ∷ ((name ++ zeros (64 - length name)) ++ payload)
+
+pub record SlotShape : Type 0 where
+  pub kv : (slot : List ℕ) → length slot ≡ 584 → AreBytes slot → (slotUsed kvFormat slot ≡ true) ↔ UsedPlace slot
+  pub rbp : (slot : List ℕ) → length slot ≡ 82 → (slotUsed rbpFormat slot ≡ true) ↔ UsedEntry slot
+
+pub record Shapes : Type 0 where
+  pub of-name : NameShape
+  pub of-prefix : PrefixShape
+  pub of-flags : FlagsShape
+  pub of-length : SizedShape
+  pub of-record : RecordShape
+  pub of-slot : SlotShape
