@@ -17,11 +17,18 @@ use Rattle.spec.specs.Area.{Format, kvFormat, rbpFormat, slots, sized, i
 use Rattle.spec.specs.Binding.{Binding, tagMatches, setHeld, lacksSpace, setDecision, getHeld, getDecision, removeHeld, removeDecision}
 use Rattle.spec.specs.Calls.{keySized, ivSized, areasSized, areasIntact, guarded, bindingOf, setStatus, storeSet, getStatus, storeGet, storeGetInfo, removeStatus, storeRemove, storeReset, nextMatch, iteratorStatus, storeIteratorNext}
 use Rattle.spec.specs.Demands.{FreeSlot}
-use Rattle.spec.specs.Refusals.{Refusal, _when_, FirstOf, holds, fails, done, areaLengths, keyLength, ivLength, areaDamage, Held, setRefusals, roomRefusals, getRefusals, removeRefusals, iteratorRefusals, RefusalsOrdered}
+use Rattle.spec.specs.Refusals.{Refusal, _when_, FirstOf, holds, fails, done, areaLengths, keyLength, ivLength, areaDamage, Held, setRefusals, roomRefusals, getRefusals, removeRefusals, iteratorRefusals, FirstUnique, RefusalsOrdered}
 use Rattle.spec.proofs.Split.{split, clash, clashO, both, neither, not-false-is, not-true-is}
 use Rattle.spec.proofs.Get.{mac-eq, eq-mac, match-eq, eq-match}
 use Rattle.spec.proofs.Set.{free-slot, has-space}
 use Rattle.spec.proofs.Iterator.{a-match, ahead-of}
+
+pub first-unique : FirstUnique
+first-unique l s t (holds a) (holds b) = refl
+first-unique l s t (holds a) (fails n f) = absurd (n a)
+first-unique l s t (fails n f) (holds b) = absurd (n b)
+first-unique l s t (fails n f) (fails m g) = first-unique _ s t f g
+first-unique l s t done done = refl
 
 -- ---- one test of a chain
 

@@ -1,7 +1,7 @@
 -- Every statement of `specs/`, with its proof.
 use Rattle.spec.specs.Demands.{Demand1, Demand2, ClientIsolation}
 use Rattle.spec.specs.Facts.{RemoveExact, ResetExact, IteratorExact}
-use Rattle.spec.specs.Refusals.{RefusalsOrdered}
+use Rattle.spec.specs.Refusals.{FirstUnique, RefusalsOrdered}
 use Rattle.spec.specs.ModelFacts.{ModelOrdered, ModelExact}
 use Rattle.spec.specs.Edges.{Edges}
 use Rattle.spec.specs.Bounds.{Bounds}
@@ -13,7 +13,7 @@ use Rattle.spec.proofs.Isolation.{client-isolation}
 use Rattle.spec.proofs.Remove.{remove-exact}
 use Rattle.spec.proofs.Reset.{reset-exact}
 use Rattle.spec.proofs.Iterator.{iterator-exact}
-use Rattle.spec.proofs.Refusals.{refusals-ordered}
+use Rattle.spec.proofs.Refusals.{first-unique, refusals-ordered}
 use Rattle.spec.proofs.ModelFacts.{model-ordered, model-exact}
 use Rattle.spec.proofs.Edges.{edges-hold}
 use Rattle.spec.proofs.Bounds.{bounds-hold}
@@ -36,6 +36,9 @@ reset = reset-exact
 
 pub iterator-next : IteratorExact
 iterator-next = iterator-exact
+
+pub refusal-unique : FirstUnique
+refusal-unique = first-unique
 
 pub refusals : RefusalsOrdered
 refusals = refusals-ordered

@@ -27,6 +27,10 @@ pub data FirstOf : List Refusal → ℕ → Type 1 where
   fails : {number status : ℕ} {fact : Type 0} {rest : List Refusal} → ¬ fact → FirstOf rest status → FirstOf ((number when fact) ∷ rest) status
   done : FirstOf [] 0
 
+-- one list gives one number
+abbrev pub FirstUnique : Type 1
+FirstUnique = (l : List Refusal) (s t : ℕ) → FirstOf l s → FirstOf l t → s ≡ t
+
 -- ---- 1 and 2
 
 abbrev pub areaLengths : List ℕ → List ℕ → List Refusal
