@@ -25,5 +25,6 @@ pub mod Isolation
 pub mod Instance
 pub mod Edges
 pub mod Bounds
+pub mod Intact
 pub mod Shapes
 pub mod Theorems

@@ -11,19 +11,19 @@ use Rattle.spec.specs.Status.{ok, isOk, refuseIf, onOk}
 use Rattle.spec.specs.Name.{Name}
 use Rattle.spec.specs.Record.{requireReplayProtection, revision1, dataSizeOf, flagsOf, tagOf, metadata, encKey, authKey, crypt, recordCmac, sealedIv, sealedData, sealedTag, sealRecord, plaintext}
 use Rattle.spec.specs.Area.{keep, write, clear}
-use Rattle.spec.specs.Binding.{Effect, recordOf, setEffect, readCount, readOutput, removeEffect}
+use Rattle.spec.specs.Binding.{Binding, Effect, recordOf, setEffect, readCount, readOutput, removeEffect}
 use Rattle.spec.specs.Calls.{keySized, ivSized, guarded}
 use Rattle.spec.specs.Model.{Call, setCall, getCall, getInfoCall, removeCall, callName, getAnswer, getInfoAnswer, Model, modelBinding, modelEdit, modelAfter, modelStep}
 use Rattle.spec.specs.Demands.{metadataBytes, storedBytes, tagBytes}
 use Rattle.spec.specs.Refusals.{done}
-use Rattle.spec.specs.ModelFacts.{ModelOrdered, Done, bindingAfter, ModelKeeps, ModelSets, ModelRemoves, readAnswer, ModelExact}
+use Rattle.spec.specs.ModelFacts.{callRefusals, ModelOrdered, ModelDone, Done, bindingAfter, ModelKeeps, ModelSets, ModelRemoves, readAnswer, ModelExact}
 use Rattle.spec.proofs.Split.{split, both}
 use Rattle.spec.proofs.Area.{editOption}
 use Rattle.spec.proofs.Status.{guard-passed, on-ok, on-refused}
 use Rattle.spec.proofs.Record.{Sealable, sealed-tag}
 use Rattle.spec.proofs.Decision.{lacks-none, decided, decided-sealable}
 use Rattle.spec.proofs.Model.{table-same, table-other}
-use Rattle.spec.proofs.Refusals.{key-first, iv-first, not-both, set-first, get-first, remove-first}
+use Rattle.spec.proofs.Refusals.{nonzero, first-none, none-first, key-first, iv-first, not-both, set-first, get-first, remove-first}
 
 -- ---- the order of the tests
 
@@ -36,6 +36,18 @@ model-ordered m (setCall key name flags iv value) =
 model-ordered m (getCall key name offset output) = key-first key _ (get-first key name offset (modelBinding m name))
 model-ordered m (getInfoCall key name) = key-first key _ (get-first key name 0 (modelBinding m name))
 model-ordered m (removeCall name) = remove-first name (modelBinding m name)
+
+some-nonzero : (c : Call) (b : Binding) → nonzero (callRefusals c b) ≡ true
+some-nonzero (setCall key name flags iv value) b = refl
+some-nonzero (getCall key name offset output) b = refl
+some-nonzero (getInfoCall key name) b = refl
+some-nonzero (removeCall name) b = refl
+
+pub model-done : ModelDone
+model-done m c =
+    let l = callRefusals c (modelBinding m (callName c)) in
+    let f = model-ordered m c in
+    (first-none l _ (some-nonzero c (modelBinding m (callName c))) f, none-first l _ f)
 
 -- ---- what is kept
 

@@ -6,7 +6,7 @@ use mathlib.Core.List.{List, [], _∷_, _++_}
 use mathlib.Core.Option.{Option, none, some}
 use Prim.Native.Nat.{ℕ, _≤_}
 use native.Mathlib.Omega.{arith}
-use borrow.Author.Tests.{eqb-true, eqb-false, ltb-true, ltb-false, leb-true, leb-false}
+use borrow.Author.Tests.{eqb-true, eq-eqb, eqb-false, ltb-true, ltb-false, leb-true, leb-false}
 use lib.Dec.{eqb, leb, ltb}
 use lib.ListN.{length, drop}
 use Rattle.spec.specs.Bytes.{isSome}
@@ -17,7 +17,7 @@ use Rattle.spec.specs.Area.{Format, kvFormat, rbpFormat, slots, sized, i
 use Rattle.spec.specs.Binding.{Binding, tagMatches, setHeld, lacksSpace, setDecision, getHeld, getDecision, removeHeld, removeDecision}
 use Rattle.spec.specs.Calls.{keySized, ivSized, areasSized, areasIntact, guarded, bindingOf, setStatus, storeSet, getStatus, storeGet, storeGetInfo, removeStatus, storeRemove, storeReset, nextMatch, iteratorStatus, storeIteratorNext}
 use Rattle.spec.specs.Demands.{FreeSlot}
-use Rattle.spec.specs.Refusals.{Refusal, _when_, FirstOf, holds, fails, done, areaLengths, keyLength, ivLength, areaDamage, Held, setRefusals, roomRefusals, getRefusals, removeRefusals, iteratorRefusals, FirstUnique, RefusalsOrdered}
+use Rattle.spec.specs.Refusals.{Refusal, _when_, FirstOf, holds, fails, done, NoneOf, areaLengths, keyLength, ivLength, areaDamage, Held, setRefusals, roomRefusals, getRefusals, removeRefusals, iteratorRefusals, FirstUnique, RefusalsOrdered}
 use Rattle.spec.proofs.Split.{split, clash, clashO, both, neither, not-false-is, not-true-is}
 use Rattle.spec.proofs.Get.{mac-eq, eq-mac, match-eq, eq-match}
 use Rattle.spec.proofs.Set.{free-slot, has-space}
@@ -29,6 +29,21 @@ first-unique l s t (holds a) (fails n f) = absurd (n a)
 first-unique l s t (fails n f) (holds b) = absurd (n b)
 first-unique l s t (fails n f) (fails m g) = first-unique _ s t f g
 first-unique l s t done done = refl
+
+-- where no number of the list is 0, 0 is given exactly where no fact holds
+abbrev pub nonzero : List Refusal → Bool
+nonzero [] = true
+nonzero ((number when fact) ∷ rest) = not (eqb number 0) && nonzero rest
+
+pub first-none : (l : List Refusal) (s : ℕ) → nonzero l ≡ true → FirstOf l s → s ≡ 0 → NoneOf l
+first-none l s z (holds {number = n} {rest = rest} a) e = clash (eqb n 0) (eq-eqb n 0 e) (not-true-is (eqb n 0) (both (not (eqb n 0)) (nonzero rest) z .0))
+first-none l s z (fails {number = n} {rest = rest} q f) e = (q, first-none rest s (both (not (eqb n 0)) (nonzero rest) z .1) f e)
+first-none l s z done e = tt
+
+pub none-first : (l : List Refusal) (s : ℕ) → FirstOf l s → NoneOf l → s ≡ 0
+none-first l s (holds a) n = absurd (n .0 a)
+none-first l s (fails {rest = rest} q f) n = none-first rest s f (n .1)
+none-first l s done n = refl
 
 -- ---- one test of a chain
 

@@ -13,10 +13,11 @@ use lib.Seq.{take-at, drop-at, drop-drop, drop-cons, length-take-le}
 use Rattle.spec.specs.Bytes.{every, allZero, zeros, zeroFill, leBytes, leValue}
 use Rattle.spec.specs.Name.{validNameByte, validName, validPrefix}
 use Rattle.spec.specs.Record.{requireConfidentiality, requireIntegrity, validFlags, revision1, metadataSizeOf, revisionOf, dataSizeOf, flagsOf, ivOf, storedDataOf, tagOf, recordValid}
-use Rattle.spec.specs.Area.{Format, kvFormat, rbpFormat, stateByte, nameLength, payloadSize, slotName, slotPayload, slotUsed, slotValid, makeSlot, slotCount, sized}
-use Rattle.spec.specs.Shapes.{AreBytes, Printable, NameShape, PrefixShape, GoodFlags, FlagsShape, Multiple, SizedShape, WellFormed, RecordShape, UsedPlace, UsedEntry, SlotShape, Shapes}
+use Rattle.spec.specs.Area.{Format, kvFormat, rbpFormat, stateByte, nameLength, slotFree, payloadSize, slotName, slotPayload, slotUsed, slotValid, makeSlot, slotCount, sized}
+use Rattle.spec.specs.Shapes.{AreBytes, Printable, NameShape, PrefixShape, GoodFlags, FlagsShape, Multiple, SizedShape, WellFormed, RecordShape, UsedPlace, UsedEntry, SlotShape, FreeShape, Shapes}
 use Rattle.spec.proofs.Split.{split, clash, both}
-use Rattle.spec.proofs.Bytes.{le-value}
+use Rattle.spec.proofs.Bytes.{allZero-zeros, le-value}
+use Rattle.spec.proofs.Intact.{intact-shape}
 use Rattle.spec.proofs.Name.{valid-name}
 use Rattle.spec.proofs.Slot.{FormatLaws, Fits, kv-laws, rbp-laws, kv-fits, rbp-fits, not-free, made-valid, made-state, UsedSlot, used-slot}
 use Rattle.spec.proofs.Set.{flags-split, flags-join}
@@ -368,5 +369,9 @@ entry-used s w =
 slot-shape : SlotShape
 slot-shape = record { kv = λ s z b. (used-place s z b, place-used s); rbp = λ s z. (used-entry s z, entry-used s) }
 
+free-shape : FreeShape
+unfolding slotFree
+free-shape s = (zeros-of s, λ e. rw e (allZero-zeros (length s)))
+
 pub shapes-hold : Shapes
-shapes-hold = record { of-name = name-shape; of-prefix = prefix-shape; of-flags = flags-shape; of-length = sized-shape; of-record = record-shape; of-slot = slot-shape }
+shapes-hold = record { of-name = name-shape; of-prefix = prefix-shape; of-flags = flags-shape; of-length = sized-shape; of-record = record-shape; of-slot = slot-shape; of-free-slot = free-shape; of-area = intact-shape }

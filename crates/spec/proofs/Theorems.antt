@@ -2,7 +2,7 @@
 use Rattle.spec.specs.Demands.{Demand1, Demand2, ClientIsolation}
 use Rattle.spec.specs.Facts.{RemoveExact, ResetExact, IteratorExact}
 use Rattle.spec.specs.Refusals.{FirstUnique, RefusalsOrdered}
-use Rattle.spec.specs.ModelFacts.{ModelOrdered, ModelExact}
+use Rattle.spec.specs.ModelFacts.{ModelOrdered, ModelDone, ModelExact}
 use Rattle.spec.specs.Edges.{Edges}
 use Rattle.spec.specs.Bounds.{Bounds}
 use Rattle.spec.specs.Shapes.{Shapes}
@@ -14,7 +14,7 @@ use Rattle.spec.proofs.Remove.{remove-exact}
 use Rattle.spec.proofs.Reset.{reset-exact}
 use Rattle.spec.proofs.Iterator.{iterator-exact}
 use Rattle.spec.proofs.Refusals.{first-unique, refusals-ordered}
-use Rattle.spec.proofs.ModelFacts.{model-ordered, model-exact}
+use Rattle.spec.proofs.ModelFacts.{model-ordered, model-done, model-exact}
 use Rattle.spec.proofs.Edges.{edges-hold}
 use Rattle.spec.proofs.Bounds.{bounds-hold}
 use Rattle.spec.proofs.Shapes.{shapes-hold}
@@ -45,6 +45,9 @@ refusals = refusals-ordered
 
 pub model-refusals : ModelOrdered
 model-refusals = model-ordered
+
+pub model-condition : ModelDone
+model-condition = model-done
 
 pub model : ModelExact
 model = model-exact

@@ -1,7 +1,7 @@
 -- The reference model keeps demand 2's rules: its refusals are the store's, in the same order, without 2, 10, and 1 for card or chip; and what a call
 -- answers and leaves is 01's, written out.
 use mathlib.Core.Path.{_≡_}
-use mathlib.Core.Logic.{_≢_}
+use mathlib.Core.Logic.{_≢_, _↔_}
 use mathlib.Core.Bool.{true, false}
 use mathlib.Core.List.{List, _++_}
 use mathlib.Core.Option.{none, some}
@@ -14,7 +14,7 @@ use Rattle.spec.specs.Binding.{Binding}
 use Rattle.spec.specs.Model.{Call, setCall, getCall, getInfoCall, removeCall, callName}
 use Rattle.spec.specs.Model.{Answer, setAnswer, getAnswer, getInfoAnswer, removeAnswer, Model, modelBinding, modelStep}
 use Rattle.spec.specs.Demands.{opened, metadataBytes, storedBytes, tagBytes}
-use Rattle.spec.specs.Refusals.{Refusal, FirstOf, keyLength, ivLength, setRefusals, getRefusals, removeRefusals}
+use Rattle.spec.specs.Refusals.{Refusal, FirstOf, NoneOf, keyLength, ivLength, setRefusals, getRefusals, removeRefusals}
 
 -- the number of an answer
 abbrev pub answerStatus : Answer → ℕ
@@ -36,6 +36,10 @@ ModelOrdered = (m : Model) (c : Call) → FirstOf (callRefusals c (modelBinding 
 
 abbrev pub Done : Model → Call → Type 0
 Done m c = answerStatus (modelStep m c .answer) ≡ ok
+
+-- a step answers 0 exactly where no test fails
+abbrev pub ModelDone : Type 0
+ModelDone = (m : Model) (c : Call) → Done m c ↔ NoneOf (callRefusals c (modelBinding m (callName c)))
 
 -- what a name has after a call
 abbrev pub bindingAfter : Model → Call → Name → Binding

@@ -27,6 +27,11 @@ pub data FirstOf : List Refusal → ℕ → Type 1 where
   fails : {number status : ℕ} {fact : Type 0} {rest : List Refusal} → ¬ fact → FirstOf rest status → FirstOf ((number when fact) ∷ rest) status
   done : FirstOf [] 0
 
+-- no fact of the list holds
+abbrev pub NoneOf : List Refusal → Type 0
+NoneOf [] = Unit {0}
+NoneOf ((number when fact) ∷ rest) = (¬ fact) × NoneOf rest
+
 -- one list gives one number
 abbrev pub FirstUnique : Type 1
 FirstUnique = (l : List Refusal) (s t : ℕ) → FirstOf l s → FirstOf l t → s ≡ t

@@ -3,12 +3,13 @@ use mathlib.Core.Path.{_≡_}
 use mathlib.Core.Logic.{_⊎_, _↔_}
 use mathlib.Core.Bool.{true, false}
 use mathlib.Core.List.{List, _∷_, _++_}
+use mathlib.Core.Option.{some}
 use Prim.Native.Nat.{ℕ, _-_, _*_, _≤_, _<_}
-use lib.ListN.{length, getD}
+use lib.ListN.{length, getD, take, drop}
 use Rattle.spec.specs.Bytes.{zeros, leBytes}
 use Rattle.spec.specs.Name.{Name, validName, validPrefix}
 use Rattle.spec.specs.Record.{requireConfidentiality, requireIntegrity, validFlags, revision1, recordValid}
-use Rattle.spec.specs.Area.{kvFormat, rbpFormat, slotUsed, sized}
+use Rattle.spec.specs.Area.{Format, kvFormat, rbpFormat, slotFree, slotUsed, slotHolder, slotCount, sized, intact}
 
 -- each element is at most 255
 abbrev pub AreBytes : List ℕ → Type 0
@@ -79,6 +80,23 @@ pub record SlotShape : Type 0 where
   pub kv : (slot : List ℕ) → length slot ≡ 584 → AreBytes slot → (slotUsed kvFormat slot ≡ true) ↔ UsedPlace slot
   pub rbp : (slot : List ℕ) → length slot ≡ 82 → (slotUsed rbpFormat slot ≡ true) ↔ UsedEntry slot
 
+-- "A free place or entry is all zero."
+abbrev pub FreeShape : Type 0
+FreeShape = (slot : List ℕ) → (slotFree slot ≡ true) ↔ (slot ≡ zeros (length slot))
+
+-- the bytes of slot i
+abbrev pub slotAt : Format → List ℕ → ℕ → List ℕ
+slotAt F area i = take (F .slotSize) (drop (i * F .slotSize) area)
+
+-- no "damage": every slot is free or used, and "two used places may not hold one name, nor two entries"
+pub record NoDamage (F : Format) (area : List ℕ) : Type 0 where
+  pub shaped : (i : ℕ) → i < slotCount F area → (slotFree (slotAt F area i) ≡ true) ⊎ (slotUsed F (slotAt F area i) ≡ true)
+  pub once : (i j : ℕ) (name : Name) → i < slotCount F area → j < slotCount F area
+      → slotHolder F (slotAt F area i) ≡ some name → slotHolder F (slotAt F area j) ≡ some name → i ≡ j
+
+abbrev pub IntactShape : Type 0
+IntactShape = (F : Format) (area : List ℕ) → (intact F area ≡ true) ↔ NoDamage F area
+
 pub record Shapes : Type 0 where
   pub of-name : NameShape
   pub of-prefix : PrefixShape
@@ -86,3 +104,5 @@ pub record Shapes : Type 0 where
   pub of-length : SizedShape
   pub of-record : RecordShape
   pub of-slot : SlotShape
+  pub of-free-slot : FreeShape
+  pub of-area : IntactShape
