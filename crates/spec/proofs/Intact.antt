@@ -1,4 +1,4 @@
--- An area without damage, slot by slot.
+-- An area without damage, and what it holds for a name, slot by slot.
 use mathlib.Core.Path.{_≡_, refl, sym, ap, _∙_}
 use mathlib.Core.Logic.{_⊎_, inl, inr}
 use mathlib.Core.Bool.{Bool, true, false, _||_}
@@ -12,13 +12,17 @@ use lib.ListN.{length, getD}
 use Rattle.spec.specs.Bytes.{every, any}
 use Rattle.spec.specs.Name.{Name}
 use Rattle.spec.specs.Slots.{distinct, firstIndex, findFirst}
-use Rattle.spec.specs.Area.{Format, slotValid, slotHolder, slotCount, slots, names, intact}
-use Rattle.spec.specs.Shapes.{slotAt, NoDamage, IntactShape}
-use Rattle.spec.proofs.Split.{splitO, clash, both}
+use Rattle.spec.specs.Area.{Format, slotPayload, slotValid, slotHolder, holds, slotCount, slots, names, intact, lookup}
+use Rattle.spec.specs.Shapes.{slotAt, NoDamage, IntactShape, Holds, LookupShape}
+use Rattle.spec.proofs.Split.{split, splitO, clash, clashO, both}
+use Rattle.spec.proofs.Area.{find-of-some}
 use Rattle.spec.proofs.Bytes.{bytesEq-refl}
 use Rattle.spec.proofs.Slots.{held, held-at, find-any, Distinct, to-distinct, of-distinct}
 use Rattle.spec.proofs.Chunks.{length-chunks, chunk-at}
 use Rattle.spec.proofs.First.{any-first, any-at, first-passes}
+
+some-inj : {A : Type 0} {a b : A} → some a ≡ some b → a ≡ b
+some-inj h = cc
 
 module _ {S : Type 0} (d : S) where
   every-index : (t : S → Bool) (ss : List S) → every t ss ≡ true → (i : ℕ) → i < length ss → t (getD ss i d) ≡ true
@@ -29,6 +33,24 @@ module _ {S : Type 0} (d : S) where
   index-every : (t : S → Bool) (ss : List S) → ((i : ℕ) → i < length ss → t (getD ss i d) ≡ true) → every t ss ≡ true
   index-every t [] h = refl
   index-every t (s ∷ ss) h = rw (h 0 (omega arith), index-every t ss (λ i k. h (suc i) (omega arith)))
+
+  -- what is found, and at which index
+  find-index : (t : S → Bool) (ss : List S) (s : S) → findFirst t ss ≡ some s
+      → (i : ℕ) × (i < length ss) × (getD ss i d ≡ s) × (t s ≡ true) × ((j : ℕ) → j < i → t (getD ss j d) ≡ false)
+  find-index t [] s h = clashO none refl h
+  find-index t (x ∷ ss) s h = split (t x)
+      (λ e. let z : x ≡ s = some-inj (rw e at h) in (0, omega arith, z, rw z at e, λ j l. absurd (not-suc-le-zero l)))
+      (λ e. let f = find-index t ss s (rw e at h) in (suc (f .0), let k = f .1 in omega arith, f .2, f .3, below e f))
+    where
+      below : t x ≡ false → (f : (i : ℕ) × (i < length ss) × (getD ss i d ≡ s) × (t s ≡ true) × ((j : ℕ) → j < i → t (getD ss j d) ≡ false))
+          → (j : ℕ) → j < suc (f .0) → t (getD (x ∷ ss) j d) ≡ false
+      below e f zero l = e
+      below e f (suc j) l = f .4 j (le-of-suc-le-suc l)
+
+  index-find : (t : S → Bool) (ss : List S) (i : ℕ) → i < length ss → t (getD ss i d) ≡ true → ((j : ℕ) → j < i → t (getD ss j d) ≡ false) → findFirst t ss ≡ some (getD ss i d)
+  index-find t [] i k e f = absurd (not-suc-le-zero k)
+  index-find t (x ∷ ss) zero k e f = rw e
+  index-find t (x ∷ ss) (suc i) k e f = rw (f 0 (omega arith)) (index-find t ss i (le-of-suc-le-suc k) e (λ j l. f (suc j) (omega arith)))
 
   module _ (at : S → Option Name) where
     at-held : (n : Name) (s : S) → at s ≡ some n → held at n s ≡ true
@@ -98,6 +120,36 @@ module _ (F : Format) (area : List ℕ) where
       let g : j < slotCount F area = rw count at l in
       h .once i j n c g (rw (at-is i c) at e) (rw (at-is j g) at f))) in
       rw (p, q)
+
+  -- ---- lookup
+
+  holds-of : (name payload : List ℕ) → lookup F area name ≡ some payload → Holds F area name payload
+  unfolding lookup
+  holds-of name payload h =
+      let s = find-of-some F area name payload h in
+      let f = find-index [] (holds F name) (slots F area) (s .0) (s .1) in
+      let k : f .0 < slotCount F area = rw count at (f .1) in
+      let e : s .0 ≡ slotAt F area (f .0) = sym (f .2) ∙ at-is (f .0) k in
+      let p : slotPayload F (s .0) ≡ payload = some-inj (rw (s .1) at h) in
+      record {
+        i = f .0;
+        in-range = k;
+        held = rw e at (held-at (slotHolder F) name (s .0) (f .3));
+        lowest = λ j l z. clash _ (at-held [] (slotHolder F) name (slotAt F area j) z) (rw (at-is j (omega arith)) at (f .4 j l));
+        payload-is = rw e at p;
+      }
+
+  lookup-of : (name payload : List ℕ) → Holds F area name payload → lookup F area name ≡ some payload
+  unfolding lookup
+  lookup-of name payload h =
+      let k = h .in-range in
+      let e = at-is (h .i) k in
+      let f = index-find [] (holds F name) (slots F area) (h .i) (rw count k) (rw e (at-held [] (slotHolder F) name _ (h .held)))
+      (λ j l. rw (at-is j (omega arith)) (split (holds F name (slotAt F area j)) (λ z. absurd (h .lowest j l (held-at (slotHolder F) name _ z))) (λ z. z))) in
+      rw (f, e) (ap some (h .payload-is))
+
+pub lookup-shape : LookupShape
+lookup-shape F area name payload = (holds-of F area name payload, lookup-of F area name payload)
 
 pub intact-shape : IntactShape
 intact-shape F area = (no-damage F area, undamaged F area)

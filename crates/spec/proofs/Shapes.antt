@@ -17,7 +17,7 @@ use Rattle.spec.specs.Area.{Format, kvFormat, rbpFormat, stateByte, name
 use Rattle.spec.specs.Shapes.{AreBytes, Printable, NameShape, PrefixShape, GoodFlags, FlagsShape, Multiple, SizedShape, WellFormed, RecordShape, UsedPlace, UsedEntry, SlotShape, FreeShape, Shapes}
 use Rattle.spec.proofs.Split.{split, clash, both}
 use Rattle.spec.proofs.Bytes.{allZero-zeros, le-value}
-use Rattle.spec.proofs.Intact.{intact-shape}
+use Rattle.spec.proofs.Intact.{intact-shape, lookup-shape}
 use Rattle.spec.proofs.Name.{valid-name}
 use Rattle.spec.proofs.Slot.{FormatLaws, Fits, kv-laws, rbp-laws, kv-fits, rbp-fits, not-free, made-valid, made-state, UsedSlot, used-slot}
 use Rattle.spec.proofs.Set.{flags-split, flags-join}
@@ -374,4 +374,4 @@ unfolding slotFree
 free-shape s = (zeros-of s, λ e. rw e (allZero-zeros (length s)))
 
 pub shapes-hold : Shapes
-shapes-hold = record { of-name = name-shape; of-prefix = prefix-shape; of-flags = flags-shape; of-length = sized-shape; of-record = record-shape; of-slot = slot-shape; of-free-slot = free-shape; of-area = intact-shape }
+shapes-hold = record { of-name = name-shape; of-prefix = prefix-shape; of-flags = flags-shape; of-length = sized-shape; of-record = record-shape; of-slot = slot-shape; of-free-slot = free-shape; of-area = intact-shape; of-lookup = lookup-shape }

@@ -1,6 +1,6 @@
 -- 01's tests of one thing, from the layout: what a name, flags, a length, a record and a slot are that pass them.
 use mathlib.Core.Path.{_≡_}
-use mathlib.Core.Logic.{_⊎_, _↔_}
+use mathlib.Core.Logic.{_≢_, _⊎_, _↔_}
 use mathlib.Core.Bool.{true, false}
 use mathlib.Core.List.{List, _∷_, _++_}
 use mathlib.Core.Option.{some}
@@ -9,7 +9,7 @@ use lib.ListN.{length, getD, take, drop}
 use Rattle.spec.specs.Bytes.{zeros, leBytes}
 use Rattle.spec.specs.Name.{Name, validName, validPrefix}
 use Rattle.spec.specs.Record.{requireConfidentiality, requireIntegrity, validFlags, revision1, recordValid}
-use Rattle.spec.specs.Area.{Format, kvFormat, rbpFormat, slotFree, slotUsed, slotHolder, slotCount, sized, intact}
+use Rattle.spec.specs.Area.{Format, kvFormat, rbpFormat, slotFree, slotPayload, slotUsed, slotHolder, slotCount, sized, intact, lookup}
 
 -- each element is at most 255
 abbrev pub AreBytes : List ℕ → Type 0
@@ -97,6 +97,17 @@ pub record NoDamage (F : Format) (area : List ℕ) : Type 0 where
 abbrev pub IntactShape : Type 0
 IntactShape = (F : Format) (area : List ℕ) → (intact F area ≡ true) ↔ NoDamage F area
 
+-- what an area holds for a name: the payload of the slot that has it (of the lowest, where two have it)
+pub record Holds (F : Format) (area name payload : List ℕ) : Type 0 where
+  pub i : ℕ
+  pub in-range : i < slotCount F area
+  pub held : slotHolder F (slotAt F area i) ≡ some name
+  pub lowest : (j : ℕ) → j < i → slotHolder F (slotAt F area j) ≢ some name
+  pub payload-is : slotPayload F (slotAt F area i) ≡ payload
+
+abbrev pub LookupShape : Type 0
+LookupShape = (F : Format) (area name payload : List ℕ) → (lookup F area name ≡ some payload) ↔ Holds F area name payload
+
 pub record Shapes : Type 0 where
   pub of-name : NameShape
   pub of-prefix : PrefixShape
@@ -106,3 +117,4 @@ pub record Shapes : Type 0 where
   pub of-slot : SlotShape
   pub of-free-slot : FreeShape
   pub of-area : IntactShape
+  pub of-lookup : LookupShape
