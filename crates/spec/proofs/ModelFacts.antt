@@ -1,5 +1,5 @@
 -- The reference model keeps demand 2's rules.
-use mathlib.Core.Path.{_≡_, refl, ap, _∙_}
+use mathlib.Core.Path.{_≡_, refl, sym, ap, _∙_}
 use mathlib.Core.Logic.{_≢_}
 use mathlib.Core.Bool.{true, cond, _&&_}
 use mathlib.Core.List.{List, _++_}
@@ -22,7 +22,7 @@ use Rattle.spec.proofs.Area.{editOption}
 use Rattle.spec.proofs.Status.{guard-passed, on-ok, on-refused}
 use Rattle.spec.proofs.Record.{Sealable, sealed-tag}
 use Rattle.spec.proofs.Decision.{lacks-none, decided, decided-sealable}
-use Rattle.spec.proofs.Model.{table-same, table-other}
+use Rattle.spec.proofs.Model.{table-same, table-other, model-start}
 use Rattle.spec.proofs.Refusals.{nonzero, first-none, none-first, key-first, iv-first, not-both, set-first, get-first, remove-first}
 
 -- ---- the order of the tests
@@ -146,6 +146,7 @@ module _ {status : ℕ} {o : Option (List ℕ)} {r : List ℕ} (h : status ≡ o
 
 pub model-exact : ModelExact
 model-exact = record {
+  starts = λ kv rbp name. sym (model-start kv rbp name);
   keeps = keeps;
   sets = sets;
   removes = removes;

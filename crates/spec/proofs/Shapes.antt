@@ -3,6 +3,7 @@ use mathlib.Core.Path.{_≡_, refl, sym, ap, _∙_}
 use mathlib.Core.Logic.{inl, inr}
 use mathlib.Core.Bool.{Bool, true, false, _||_}
 use mathlib.Core.List.{List, [], _∷_, _++_, append-assoc, append-nil}
+use mathlib.Core.Option.{some}
 use Prim.Native.Nat.{ℕ, zero, suc, _+_, _-_, _*_, _/_, _%_, _≤_, _<_}
 use native.Mathlib.Nat.{not-suc-le-zero, le-of-suc-le-suc}
 use native.Mathlib.Omega.{arith}
@@ -13,13 +14,13 @@ use lib.Seq.{take-at, drop-at, drop-drop, drop-cons, length-take-le}
 use Rattle.spec.specs.Bytes.{every, allZero, zeros, zeroFill, leBytes, leValue}
 use Rattle.spec.specs.Name.{validNameByte, validName, validPrefix}
 use Rattle.spec.specs.Record.{requireConfidentiality, requireIntegrity, validFlags, revision1, metadataSizeOf, revisionOf, dataSizeOf, flagsOf, ivOf, storedDataOf, tagOf, recordValid}
-use Rattle.spec.specs.Area.{Format, kvFormat, rbpFormat, stateByte, nameLength, slotFree, payloadSize, slotName, slotPayload, slotUsed, slotValid, makeSlot, slotCount, sized}
+use Rattle.spec.specs.Area.{Format, kvFormat, rbpFormat, stateByte, nameLength, slotFree, payloadSize, slotName, slotPayload, slotUsed, slotValid, slotHolder, makeSlot, slotCount, sized}
 use Rattle.spec.specs.Shapes.{AreBytes, Printable, NameShape, PrefixShape, GoodFlags, FlagsShape, Multiple, SizedShape, WellFormed, RecordShape, UsedPlace, UsedEntry, SlotShape, FreeShape, Shapes}
 use Rattle.spec.proofs.Split.{split, clash, both}
 use Rattle.spec.proofs.Bytes.{allZero-zeros, le-value}
 use Rattle.spec.proofs.Intact.{intact-shape, lookup-shape}
 use Rattle.spec.proofs.Name.{valid-name}
-use Rattle.spec.proofs.Slot.{FormatLaws, Fits, kv-laws, rbp-laws, kv-fits, rbp-fits, not-free, made-valid, made-state, UsedSlot, used-slot}
+use Rattle.spec.proofs.Slot.{FormatLaws, Fits, kv-laws, rbp-laws, kv-fits, rbp-fits, not-free, made-valid, made-state, made-holder, made-payload, UsedSlot, used-slot}
 use Rattle.spec.proofs.Set.{flags-split, flags-join}
 use Rattle.spec.proofs.Record.{valid-flags-small, ValidRecord, valid-record}
 
@@ -354,20 +355,31 @@ used-entry s z h =
       layout = front-drop 2 0 s (omega arith) ∙ (λ i. w .state i ∷ sym n i ∷ e i);
     }
 
-place-used : (s : List ℕ) → UsedPlace s → slotUsed kvFormat s ≡ true
+-- a used slot is a made one
+made-place : (s : List ℕ) (w : UsedPlace s) → makeSlot kvFormat (w .name) (w .payload) ≡ s
 unfolding makeSlot
-place-used s w = rw (w .layout) (made-used kvFormat kv-laws (w .name) (w .payload) (w .name-valid) (kv-fits (w .payload) (w .payload-length)))
+made-place s w = sym (w .layout)
 
-entry-used : (s : List ℕ) → UsedEntry s → slotUsed rbpFormat s ≡ true
+made-entry : (s : List ℕ) (w : UsedEntry s) → makeSlot rbpFormat (w .name) (w .payload) ≡ s
 unfolding makeSlot
-entry-used s w =
-    let e = w .payload-length in
-    let q : w .payload ++ zeros (16 - length (w .payload)) ≡ w .payload = rw e (append-nil (w .payload)) in
-    let k : makeSlot rbpFormat (w .name) (w .payload) ≡ s = (λ i. 1 ∷ length (w .name) ∷ (zeroFill 64 (w .name) ++ q i)) ∙ sym (w .layout) in
-    rw k at (made-used rbpFormat rbp-laws (w .name) (w .payload) (w .name-valid) (rbp-fits (w .payload) e))
+made-entry s w =
+    let q : w .payload ++ zeros (16 - length (w .payload)) ≡ w .payload = rw (w .payload-length) (append-nil (w .payload)) in
+    (λ i. 1 ∷ length (w .name) ∷ (zeroFill 64 (w .name) ++ q i)) ∙ sym (w .layout)
+
+module _ (F : Format) (L : FormatLaws F) (s n p : List ℕ) (v : validName n ≡ true) (f : Fits F p) (e : makeSlot F n p ≡ s) where
+  used-of : slotUsed F s ≡ true
+  used-of = rw e at (made-used F L n p v f)
+
+  parts-of : (slotHolder F s ≡ some n) × (slotPayload F s ≡ p)
+  parts-of = (rw e at (made-holder F L n p v f), rw e at (made-payload F L n p v f))
 
 slot-shape : SlotShape
-slot-shape = record { kv = λ s z b. (used-place s z b, place-used s); rbp = λ s z. (used-entry s z, entry-used s) }
+slot-shape = record {
+  kv = λ s z b. (used-place s z b, λ w. used-of kvFormat kv-laws s (w .name) (w .payload) (w .name-valid) (kv-fits (w .payload) (w .payload-length)) (made-place s w));
+  rbp = λ s z. (used-entry s z, λ w. used-of rbpFormat rbp-laws s (w .name) (w .payload) (w .name-valid) (rbp-fits (w .payload) (w .payload-length)) (made-entry s w));
+  kv-parts = λ s w. parts-of kvFormat kv-laws s (w .name) (w .payload) (w .name-valid) (kv-fits (w .payload) (w .payload-length)) (made-place s w);
+  rbp-parts = λ s w. parts-of rbpFormat rbp-laws s (w .name) (w .payload) (w .name-valid) (rbp-fits (w .payload) (w .payload-length)) (made-entry s w);
+}
 
 free-shape : FreeShape
 unfolding slotFree

@@ -1,12 +1,12 @@
 -- The edges of single tests that 01's table does not mark: one more table of what the definitions give and what 01 says, in the manner of `Edges`.
 use mathlib.Core.Path.{_≡_}
 use mathlib.Core.Bool.{Bool, true, cond}
-use mathlib.Core.List.{List, [], _∷_, _++_}
+use mathlib.Core.List.{List, [], _∷_, _++_, map}
 use Prim.Native.Nat.{ℕ, _*_}
 use lib.ListN.{replicate}
 use Rattle.spec.specs.Bytes.{every, zeros}
 use Rattle.spec.specs.Name.{keyName}
-use Rattle.spec.specs.Record.{revision1, dataSizeOf, flagsOf, recordValid}
+use Rattle.spec.specs.Record.{writeOnce, requireConfidentiality, requireIntegrity, requireReplayProtection, revision1, dataSizeOf, flagsOf, recordValid}
 use Rattle.spec.specs.Area.{kvFormat, rbpFormat, sized}
 use Rattle.spec.specs.Calls.{iteratorStatus}
 use Rattle.spec.specs.Edges.{Row, agrees, nameA, statusOf}
@@ -22,6 +22,10 @@ prefixStatus prefix = iteratorStatus (zeros 584) (zeros 82) prefix 0 (zeros 64) 
 -- a record of three bytes of data and flags 0, but for its data size and flags
 abbrev pub recordWith : List ℕ → List ℕ → List ℕ
 recordWith size flags = 0x14 ∷ 0x00 ∷ 0x01 ∷ 0x00 ∷ (size ++ flags ++ zeros 8 ++ (1 ∷ 2 ∷ 3 ∷ []) ++ zeros 16)
+
+-- a flag, in the sixteen numbers from 0 on
+abbrev pub flagTable : (ℕ → Bool) → List ℕ
+flagTable flag = map (λ n. cond (flag n) 1 0) (0 ∷ 1 ∷ 2 ∷ 3 ∷ 4 ∷ 5 ∷ 6 ∷ 7 ∷ 8 ∷ 9 ∷ 10 ∷ 11 ∷ 12 ∷ 13 ∷ 14 ∷ 15 ∷ [])
 
 abbrev pub bounds : List Row
 bounds =
@@ -46,6 +50,11 @@ bounds =
     ∷ record { gives = keyName 1; says = replicate 15 0x30 ++ 0x31 ∷ [] }
     ∷ record { gives = keyName 0xfffeffff; says = replicate 8 0x30 ++ (0x66 ∷ 0x66 ∷ 0x66 ∷ 0x65 ∷ 0x66 ∷ 0x66 ∷ 0x66 ∷ 0x66 ∷ []) }
     ∷ record { gives = keyName 0xffff0000; says = [] }
+    -- flags: 1 write once, 2 confidentiality, 4 integrity, 8 replay protection
+    ∷ record { gives = flagTable writeOnce; says = 0 ∷ 1 ∷ 0 ∷ 1 ∷ 0 ∷ 1 ∷ 0 ∷ 1 ∷ 0 ∷ 1 ∷ 0 ∷ 1 ∷ 0 ∷ 1 ∷ 0 ∷ 1 ∷ [] }
+    ∷ record { gives = flagTable requireConfidentiality; says = 0 ∷ 0 ∷ 1 ∷ 1 ∷ 0 ∷ 0 ∷ 1 ∷ 1 ∷ 0 ∷ 0 ∷ 1 ∷ 1 ∷ 0 ∷ 0 ∷ 1 ∷ 1 ∷ [] }
+    ∷ record { gives = flagTable requireIntegrity; says = 0 ∷ 0 ∷ 0 ∷ 0 ∷ 1 ∷ 1 ∷ 1 ∷ 1 ∷ 0 ∷ 0 ∷ 0 ∷ 0 ∷ 1 ∷ 1 ∷ 1 ∷ 1 ∷ [] }
+    ∷ record { gives = flagTable requireReplayProtection; says = 0 ∷ 0 ∷ 0 ∷ 0 ∷ 0 ∷ 0 ∷ 0 ∷ 0 ∷ 1 ∷ 1 ∷ 1 ∷ 1 ∷ 1 ∷ 1 ∷ 1 ∷ 1 ∷ [] }
     -- data size and flags are judged in all four bytes
     ∷ record { gives = verdict (recordValid revision1 (recordWith (3 ∷ 0 ∷ 0 ∷ 0 ∷ []) (zeros 4))); says = 1 ∷ [] }
     ∷ record { gives = verdict (recordValid revision1 (recordWith (3 ∷ 0 ∷ 1 ∷ 0 ∷ []) (zeros 4))); says = 0 ∷ [] }

@@ -11,8 +11,9 @@ use Rattle.spec.specs.Status.{ok}
 use Rattle.spec.specs.Name.{Name}
 use Rattle.spec.specs.Record.{requireReplayProtection, dataSizeOf, flagsOf}
 use Rattle.spec.specs.Binding.{Binding}
+use Rattle.spec.specs.Calls.{bindingOf}
 use Rattle.spec.specs.Model.{Call, setCall, getCall, getInfoCall, removeCall, callName}
-use Rattle.spec.specs.Model.{Answer, setAnswer, getAnswer, getInfoAnswer, removeAnswer, Model, modelBinding, modelStep}
+use Rattle.spec.specs.Model.{Answer, setAnswer, getAnswer, getInfoAnswer, removeAnswer, Model, modelOf, modelBinding, modelStep}
 use Rattle.spec.specs.Demands.{opened, metadataBytes, storedBytes, tagBytes}
 use Rattle.spec.specs.Refusals.{Refusal, FirstOf, NoneOf, keyLength, ivLength, setRefusals, getRefusals, removeRefusals}
 
@@ -73,6 +74,8 @@ readAnswer key name offset output r =
     getAnswer ok count (take count (drop offset (opened key name r)) ++ drop count output)
 
 pub record ModelExact : Type 0 where
+  -- "It starts with what the start's used places and used entries hold."
+  pub starts : (kv rbp : List ℕ) (name : Name) → modelBinding (modelOf kv rbp) name ≡ bindingOf kv rbp name
   pub keeps : ModelKeeps
   pub sets : (m : Model) (key name : List ℕ) (flags : ℕ) (iv value : List ℕ) → let c = setCall key name flags iv value in
       Done m c → ModelSets m key name flags iv value (bindingAfter m c name)

@@ -79,6 +79,9 @@ pub record UsedEntry (slot : List ℕ) : Type 0 where
 pub record SlotShape : Type 0 where
   pub kv : (slot : List ℕ) → length slot ≡ 584 → AreBytes slot → (slotUsed kvFormat slot ≡ true) ↔ UsedPlace slot
   pub rbp : (slot : List ℕ) → length slot ≡ 82 → (slotUsed rbpFormat slot ≡ true) ↔ UsedEntry slot
+  -- the name and the record, or the CMAC, that are read from it
+  pub kv-parts : (slot : List ℕ) (u : UsedPlace slot) → (slotHolder kvFormat slot ≡ some (u .name)) × (slotPayload kvFormat slot ≡ u .payload)
+  pub rbp-parts : (slot : List ℕ) (u : UsedEntry slot) → (slotHolder rbpFormat slot ≡ some (u .name)) × (slotPayload rbpFormat slot ≡ u .payload)
 
 -- "A free place or entry is all zero."
 abbrev pub FreeShape : Type 0
