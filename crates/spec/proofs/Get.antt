@@ -36,15 +36,15 @@ pub mac-eq : (key name r : List ℕ) → macOk key name r ≡ true → tagOf r �
 unfolding macOk recordCmac authKey
 mac-eq key name r h = sym (bytesEq-eq _ (tagOf r) h)
 
-eq-mac : (key name r : List ℕ) → tagOf r ≡ cmac (derivedKey key authPrefix name) (name ++ (metadataOf r ++ storedDataOf r)) → macOk key name r ≡ true
+pub eq-mac : (key name r : List ℕ) → tagOf r ≡ cmac (derivedKey key authPrefix name) (name ++ (metadataOf r ++ storedDataOf r)) → macOk key name r ≡ true
 unfolding macOk recordCmac authKey
 eq-mac key name r h = eq-bytesEq _ (tagOf r) (sym h)
 
-match-eq : (o : Option (List ℕ)) (r : List ℕ) → tagMatches o r ≡ true → o ≡ some (tagOf r)
+pub match-eq : (o : Option (List ℕ)) (r : List ℕ) → tagMatches o r ≡ true → o ≡ some (tagOf r)
 match-eq none r h = clash false h refl
 match-eq (some t) r h = ap some (bytesEq-eq t (tagOf r) h)
 
-eq-match : (o : Option (List ℕ)) (r : List ℕ) → o ≡ some (tagOf r) → tagMatches o r ≡ true
+pub eq-match : (o : Option (List ℕ)) (r : List ℕ) → o ≡ some (tagOf r) → tagMatches o r ≡ true
 eq-match o r h = rw h (eq-bytesEq (tagOf r) (tagOf r) refl)
 
 pub undamaged-of : (kv rbp : List ℕ) → areasSized kv rbp ≡ true → areasIntact kv rbp ≡ true → Undamaged kv rbp

@@ -60,7 +60,7 @@ module _ (kv prefix : List ℕ) (start : ℕ) where
         let f = first-lowest test (drop start all) [] (j - start) (omega arith) in
         rw e at (rw (getD-drop start all (j - start) []) at f)
 
-    a-match : (name : Name) × Match kv prefix start (start + ahead) name
+    pub a-match : (name : Name) × Match kv prefix start (start + ahead) name
     a-match =
         let p = prefix-name prefix (slotHolder kvFormat (getD all (start + ahead) [])) passes in
         let c = count-is in (
@@ -74,26 +74,22 @@ module _ (kv prefix : List ℕ) (start : ℕ) where
           },
         )
 
+  -- a slot from the start on with the prefix is not before the first match
+  pub ahead-of : (i : ℕ) (name : Name) → start ≤ i → i < slotCount kvFormat kv → slotHolder kvFormat (getD all i []) ≡ some name → prefix ≡ take (length prefix) name
+      → start + ahead < length all
+  ahead-of i name l r h z =
+      let c = count-is in
+      let e : start + (i - start) ≡ i = omega arith in
+      let p : test (getD (drop start all) (i - start) []) ≡ true = rw (getD-drop start all (i - start) [], e) (name-prefix prefix (slotHolder kvFormat (getD all i [])) name h z) in
+      let a = any-at test (drop start all) [] (i - start) (rw (length-drop start all) (omega arith)) p in
+      let f = ltb-true ahead (length (drop start all)) (sym (any-first test (drop start all)) ∙ a) in
+      let d = length-drop start all in
+      omega arith
+
   -- a match decides where the first one is
   module _ (i : ℕ) (name : Name) (m : Match kv prefix start i name) where
-    match-passes : test (getD (drop start all) (i - start) []) ≡ true
-    match-passes =
-        let l = m .from-start in
-        let e : start + (i - start) ≡ i = omega arith in
-        rw (getD-drop start all (i - start) [], e) (name-prefix prefix (slotHolder kvFormat (getD all i [])) name (m .held) (m .prefixed))
-
-    match-any : any test (drop start all) ≡ true
-    match-any =
-        let l = m .from-start in
-        let r = m .in-range in
-        let c = count-is in
-        any-at test (drop start all) [] (i - start) (rw (length-drop start all) (omega arith)) match-passes
-
     match-ahead : start + ahead < length all
-    match-ahead =
-        let f = ltb-true ahead (length (drop start all)) (sym (any-first test (drop start all)) ∙ match-any) in
-        let d = length-drop start all in
-        omega arith
+    match-ahead = ahead-of i name (m .from-start) (m .in-range) (m .held) (m .prefixed)
 
     match-is : start + ahead ≡ i
     match-is = split (ltb (start + ahead) i)

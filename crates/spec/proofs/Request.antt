@@ -6,8 +6,8 @@ use Prim.Native.Nat.{ℕ}
 use Rattle.spec.specs.Status.{isOk, refuseIf, onOk}
 use Rattle.spec.specs.Name.{Name}
 use Rattle.spec.specs.Record.{dataSizeOf, flagsOf}
-use Rattle.spec.specs.Area.{kvFormat, rbpFormat, hasSpace, editArea}
-use Rattle.spec.specs.Binding.{Binding, Effect, noEffect, recordOf, setDecision, setEffect, getDecision, readCount, readOutput, removeDecision, removeEffect}
+use Rattle.spec.specs.Area.{kvFormat, rbpFormat, hasSpace, keep, editArea}
+use Rattle.spec.specs.Binding.{Binding, Effect, recordOf, setDecision, setEffect, getDecision, readCount, readOutput, removeDecision, removeEffect}
 use Rattle.spec.specs.Calls.{keySized, ivSized, areasSized, areasIntact, guarded, bindingOf, setStatus, storeSet, getStatus, storeGet, storeGetInfo, removeStatus, storeRemove}
 use Rattle.spec.specs.Interleaving.{Outcome}
 use Rattle.spec.specs.Model.{Call, setCall, getCall, getInfoCall, removeCall, callName, Answer, setAnswer, getAnswer, getInfoAnswer, removeAnswer, Model, modelBinding, modelEdit, modelStep}
@@ -19,6 +19,9 @@ pub record Request : Type 0 where
   pub decide : Binding → Bool → Bool → ℕ
   pub effect : Binding → Effect
   pub answer : Binding → ℕ → Answer
+
+abbrev pub noEffect : Effect
+noEffect = record { kv = keep; rbp = keep }
 
 abbrev pub requestOf : Call → Request
 requestOf (setCall key name flags iv value) = record {

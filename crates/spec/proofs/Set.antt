@@ -164,7 +164,7 @@ module _ (kv rbp key name : List ℕ) (flags : ℕ) (iv value : List ℕ) (h : s
 
 -- ---- the exact condition
 
-free-slot : (F : Format) (area : List ℕ) → hasSpace F area ≡ true → FreeSlot F area
+pub free-slot : (F : Format) (area : List ℕ) → hasSpace F area ≡ true → FreeSlot F area
 unfolding hasSpace
 free-slot F area h = record {
   i = firstIndex slotFree (slots F area);
@@ -172,15 +172,15 @@ free-slot F area h = record {
   free = first-passes slotFree (slots F area) [] h;
 }
 
-has-space : (F : Format) (area : List ℕ) → FreeSlot F area → hasSpace F area ≡ true
+pub has-space : (F : Format) (area : List ℕ) → FreeSlot F area → hasSpace F area ≡ true
 unfolding hasSpace
 has-space F area f = any-at slotFree (slots F area) [] (f .i) (rw (length-chunks (F .slotSize) (slotCount F area) area) (f .in-range)) (f .free)
 
-flags-split : (flags : ℕ) → validFlags flags ≡ true → requireReplayProtection flags ≡ true → requireIntegrity flags ≡ true
+pub flags-split : (flags : ℕ) → validFlags flags ≡ true → requireReplayProtection flags ≡ true → requireIntegrity flags ≡ true
 unfolding validFlags
 flags-split flags h e = rw e at (both (ltb flags 16) (not (requireReplayProtection flags) || requireIntegrity flags) h .1)
 
-flags-join : (flags : ℕ) → flags < 16 → (requireReplayProtection flags ≡ true → requireIntegrity flags ≡ true) → validFlags flags ≡ true
+pub flags-join : (flags : ℕ) → flags < 16 → (requireReplayProtection flags ≡ true → requireIntegrity flags ≡ true) → validFlags flags ≡ true
 unfolding validFlags
 flags-join flags s w = rw (lt-ltb flags 16 s) (split (requireReplayProtection flags) (λ e. rw (e, w e)) (λ e. rw e))
 

@@ -56,7 +56,7 @@ kv-fits p h = record { told = λ n l. le-value 2 (length p) (omega arith); size 
 pub rbp-fits : (p : List ℕ) → length p ≡ 16 → Fits rbpFormat p
 rbp-fits p h = record { told = λ n l. sym h; size = omega arith }
 
-not-free : (s : List ℕ) → stateByte s ≡ 1 → slotFree s ≡ false
+pub not-free : (s : List ℕ) → stateByte s ≡ 1 → slotFree s ≡ false
 unfolding slotFree
 not-free [] h = absurd (omega arith)
 not-free (x ∷ s) h = rw (ne-eqb x 0 (λ z. omega arith))
@@ -77,7 +77,7 @@ module _ (F : Format) (L : FormatLaws F) where
         ap (λ (k : ℕ). drop k (makeSlot F n p)) (L .offsets) ∙ sym (drop-drop 64 (F .nameOffset) (makeSlot F n p)) ∙ ap (drop 64) name-part
         ∙ drop-at (zeroFill 64 n) (zeroFill (payloadSize F) p) 64 (length-zeroFill 64 n (valid-length n v))
 
-    made-state : stateByte (makeSlot F n p) ≡ 1
+    pub made-state : stateByte (makeSlot F n p) ≡ 1
     unfolding makeSlot
     made-state = L .header-state n p _
 

@@ -1,4 +1,5 @@
--- 01, "Card and chip": an area of 1 to 64 slots, each free or used by one name. One theory for both, over a format.
+-- 01, "Card and chip": an area of 1 to 64 slots, each free or used by one name. One theory for both, over a format. `kv` is 01's card, SecureStore's
+-- underlying key-value store; `rbp` is 01's chip, its rollback protection.
 use mathlib.Core.Bool.{Bool, cond, _&&_, _||_}
 use mathlib.Core.List.{List, [], _∷_, _++_}
 use mathlib.Core.Option.{Option, none, some}
@@ -70,7 +71,7 @@ module _ (F : Format) where
   unfoldable pub slotValid : List ℕ → Bool
   slotValid slot = slotFree slot || slotUsed slot
 
-  -- the name that uses a slot
+  -- the name of a slot that is not all zero; where the slot is well shaped, the name that uses it
   unfoldable pub slotHolder : List ℕ → Option Name
   slotHolder slot = cond (slotFree slot) none (some (slotName slot))
 

@@ -1,4 +1,5 @@
--- What one name has, and what a call decides from it alone: its status, in 01's order after 1 and 2, and its effect.
+-- What one name has, and what a call decides from it and from its arguments, a set also from room: its status, in 01's order after 1 and 2, and its
+-- effect.
 use mathlib.Core.Bool.{Bool, false, cond, not, _&&_, _||_}
 use mathlib.Core.List.{List, [], _++_}
 use mathlib.Core.Option.{Option, none, some}
@@ -6,9 +7,11 @@ use Prim.Native.Nat.{ℕ, _-_, min}
 use lib.Dec.{eqb, leb}
 use lib.ListN.{length, take, drop}
 use Rattle.spec.specs.Bytes.{isSome, bytesEq}
-use Rattle.spec.specs.Status.{ok, errInvalidName, errInvalidFlags, errDataSize, errNotFound, errAlreadyExists, errInvalidRecord, errFlagsMismatch, errNoSpace, errAuthentication, errRollback, errOffset, refuseIf}
+use Rattle.spec.specs.Status.{ok, errInvalidName, errInvalidFlags, errDataSize, errNotFound, errAlreadyExists, errInvalidRecord, errFlagsMismatch}
+use Rattle.spec.specs.Status.{errNoSpace, errAuthentication, errRollback, errOffset, refuseIf}
 use Rattle.spec.specs.Name.{Name, validName}
-use Rattle.spec.specs.Record.{writeOnce, requireIntegrity, requireReplayProtection, validFlags, revision1, maxDataSize, dataSizeOf, flagsOf, tagOf, recordValid, sealRecord, macOk, plaintext}
+use Rattle.spec.specs.Record.{writeOnce, requireIntegrity, requireReplayProtection, validFlags, revision1, maxDataSize}
+use Rattle.spec.specs.Record.{dataSizeOf, flagsOf, tagOf, recordValid, sealRecord, macOk, plaintext}
 use Rattle.spec.specs.Area.{Edit, keep, write, clear}
 
 -- 01: a name's "contents": the record on the card or none, the CMAC in the chip or none
@@ -19,9 +22,6 @@ pub record Binding : Type 0 where
 pub record Effect : Type 0 where
   pub kv : Edit
   pub rbp : Edit
-
-abbrev pub noEffect : Effect
-noEffect = record { kv = keep; rbp = keep }
 
 abbrev pub recordOf : Option (List ℕ) → List ℕ
 recordOf none = []
@@ -39,7 +39,9 @@ tagMatches (some t) r = bytesEq t (tagOf r)
 unfoldable pub setHeld : ℕ → Option (List ℕ) → Option (List ℕ) → ℕ → ℕ
 setHeld flags none tag rest = refuseIf (writeOnce flags && isSome tag) errAlreadyExists rest
 setHeld flags (some r) tag rest =
-    refuseIf (not (recordValid revision1 r)) errInvalidRecord (refuseIf (writeOnce (flagsOf r) || writeOnce flags) errAlreadyExists (refuseIf (not (eqb flags (flagsOf r))) errFlagsMismatch rest))
+    refuseIf (not (recordValid revision1 r)) errInvalidRecord
+    (refuseIf (writeOnce (flagsOf r) || writeOnce flags) errAlreadyExists
+    (refuseIf (not (eqb flags (flagsOf r))) errFlagsMismatch rest))
 
 -- "Then 10: the name is absent and there is no free place, or the flags ask for replay protection, the chip lacks the name and has no free entry."
 -- The two Bools say whether there is a free place and a free entry.

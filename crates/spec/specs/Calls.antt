@@ -121,7 +121,7 @@ abbrev pub nameOr : Option Name → Name
 nameOr none = []
 nameOr (some name) = name
 
--- the first used slot with the prefix, from the start slot on; or one past the last slot, or past the start
+-- the first slot with the prefix, from the start slot on; where there is none, how many slots there are, or the start slot if that is more
 unfoldable pub nextMatch : List ℕ → List ℕ → ℕ → ℕ
 nextMatch kv prefix start = start + firstIndex (slotHasPrefix prefix) (drop start (slots kvFormat kv))
 

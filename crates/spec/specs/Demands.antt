@@ -12,12 +12,14 @@ use Rattle.cipher.specs.Kdf.{derivedKey, encPrefix, authPrefix}
 use Rattle.spec.specs.Bytes.{zeros, leBytes}
 use Rattle.spec.specs.Status.{ok, isListed}
 use Rattle.spec.specs.Name.{Name, validName}
-use Rattle.spec.specs.Record.{writeOnce, requireConfidentiality, requireIntegrity, requireReplayProtection, revision1, dataSizeOf, flagsOf, metadataOf, storedDataOf, tagOf, recordValid}
+use Rattle.spec.specs.Record.{writeOnce, requireConfidentiality, requireIntegrity, requireReplayProtection, revision1}
+use Rattle.spec.specs.Record.{dataSizeOf, flagsOf, metadataOf, storedDataOf, tagOf, recordValid}
 use Rattle.spec.specs.Slots.{dedup}
 use Rattle.spec.specs.Area.{Format, kvFormat, rbpFormat, slotFree, slotHolder, slotCount, slots, sized, names, intact, lookup}
 use Rattle.spec.specs.Calls.{Written, Got, Info, Iterated, bindingOf, storeSet, storeGet, storeGetInfo, storeRemove, storeReset, storeIteratorNext}
 use Rattle.spec.specs.Interleaving.{Tagged, Interleaving, lefts, rights, Outcome, answers, final, sharedStep}
-use Rattle.spec.specs.Model.{Call, setCall, getCall, getInfoCall, removeCall, callName, Answer, setAnswer, getAnswer, getInfoAnswer, removeAnswer, modelOf, modelBinding, modelStep}
+use Rattle.spec.specs.Model.{Call, setCall, getCall, getInfoCall, removeCall, callName}
+use Rattle.spec.specs.Model.{Answer, setAnswer, getAnswer, getInfoAnswer, removeAnswer, modelOf, modelBinding, modelStep}
 
 -- ---- Demand 1: a status is one of the table, and a refusal changes nothing lent and gives 0 for every other number.
 
@@ -87,7 +89,8 @@ pub record Reads (key name : List ℕ) (offset : ℕ) (output r : List ℕ) (g :
 
 pub record GetExact : Type 0 where
   pub condition : (kv rbp key name : List ℕ) (offset : ℕ) (output : List ℕ) → (storeGet kv rbp key name offset output .status ≡ ok) ↔ Readable kv rbp key name offset
-  pub gives : (kv rbp key name : List ℕ) (offset : ℕ) (output : List ℕ) (h : Readable kv rbp key name offset) → Reads key name offset output (h .r) (storeGet kv rbp key name offset output)
+  pub gives : (kv rbp key name : List ℕ) (offset : ℕ) (output : List ℕ) (h : Readable kv rbp key name offset)
+      → Reads key name offset output (h .r) (storeGet kv rbp key name offset output)
 
 -- info: "judged as a get at offset 0 into an empty output; gives data size and flags"
 pub record InfoExact : Type 0 where

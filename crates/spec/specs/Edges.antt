@@ -27,13 +27,13 @@ abbrev pub statusOf : Name → ℕ → List ℕ → List ℕ
 statusOf name flags value = setStatus (zeros 584) (zeros 82) (zeros 16) name flags (zeros 8) value ∷ []
 
 -- the card after a set of "a" with flags 0
-abbrev pub cardAfter : List ℕ → List ℕ
-cardAfter value = storeSet (zeros 584) (zeros 82) (zeros 16) nameA 0 (zeros 8) value .kv
+abbrev pub kvAfter : List ℕ → List ℕ
+kvAfter value = storeSet (zeros 584) (zeros 82) (zeros 16) nameA 0 (zeros 8) value .kv
 
 -- the status and the count of a get at an offset, after a set of three bytes
 abbrev pub readAt : ℕ → List ℕ
 readAt offset =
-    let g = storeGet (cardAfter (1 ∷ 2 ∷ 3 ∷ [])) (zeros 82) (zeros 16) nameA offset (zeros 8) in
+    let g = storeGet (kvAfter (1 ∷ 2 ∷ 3 ∷ [])) (zeros 82) (zeros 16) nameA offset (zeros 8) in
     g .status ∷ g .count ∷ []
 
 -- 29 bytes, the last one unlike the others
@@ -51,7 +51,7 @@ edges =
     ∷ record { gives = statusOf (replicate 65 0x61) 0 []; says = errInvalidName ∷ [] }
     ∷ record { gives = statusOf (0x61 ∷ 0x20 ∷ []) 0 []; says = errInvalidName ∷ [] }
     -- data of 480: record length 516, bytes 04 02; 481: 5
-    ∷ record { gives = take 2 (drop 2 (cardAfter (zeros 480))); says = 0x04 ∷ 0x02 ∷ [] }
+    ∷ record { gives = take 2 (drop 2 (kvAfter (zeros 480))); says = 0x04 ∷ 0x02 ∷ [] }
     ∷ record { gives = statusOf nameA 0 (zeros 480); says = ok ∷ [] }
     ∷ record { gives = statusOf nameA 0 (zeros 481); says = errDataSize ∷ [] }
     -- flags 8: 4; flags 12: good; flags 16: 4
@@ -59,7 +59,7 @@ edges =
     ∷ record { gives = statusOf nameA 12 []; says = ok ∷ [] }
     ∷ record { gives = statusOf nameA 16 []; says = errInvalidFlags ∷ [] }
     -- whole: name "a", flags 0, empty data
-    ∷ record { gives = cardAfter []; says = 0x01 ∷ 0x01 ∷ 0x24 ∷ 0x00 ∷ 0x61 ∷ (zeros 63 ++ 0x14 ∷ 0x00 ∷ 0x01 ∷ 0x00 ∷ zeros 512) }
+    ∷ record { gives = kvAfter []; says = 0x01 ∷ 0x01 ∷ 0x24 ∷ 0x00 ∷ 0x61 ∷ (zeros 63 ++ 0x14 ∷ 0x00 ∷ 0x01 ∷ 0x00 ∷ zeros 512) }
     -- salt for a name of 29 bytes: "AUTH" drops its last byte, "ENC" keeps all
     ∷ record { gives = salt authPrefix name29; says = 0x41 ∷ 0x55 ∷ 0x54 ∷ 0x48 ∷ name28 }
     ∷ record { gives = salt encPrefix name29; says = 0x45 ∷ 0x4e ∷ 0x43 ∷ name29 }

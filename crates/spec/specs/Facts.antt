@@ -1,4 +1,4 @@
--- What remove and iterator_next do, in facts, as demand 2 says it of set, get and info.
+-- What remove, reset and iterator_next do, in facts, as demand 2 says it of set, get and info.
 use mathlib.Core.Path.{_≡_}
 use mathlib.Core.Logic.{_≢_, _↔_}
 use mathlib.Core.Bool.{true, false}
@@ -10,8 +10,8 @@ use Rattle.spec.specs.Bytes.{zeros}
 use Rattle.spec.specs.Status.{ok}
 use Rattle.spec.specs.Name.{Name, validName, validPrefix}
 use Rattle.spec.specs.Record.{writeOnce, requireReplayProtection, revision1, flagsOf, recordValid}
-use Rattle.spec.specs.Area.{Format, kvFormat, rbpFormat, slotHolder, slotCount, slots, lookup}
-use Rattle.spec.specs.Calls.{Written, storeRemove, storeIteratorNext}
+use Rattle.spec.specs.Area.{Format, kvFormat, rbpFormat, slotHolder, slotCount, slots, sized, lookup}
+use Rattle.spec.specs.Calls.{Written, storeRemove, storeReset, storeIteratorNext}
 use Rattle.spec.specs.Demands.{Undamaged}
 
 -- ---- remove
@@ -41,6 +41,16 @@ pub record Clears (kv rbp name r : List ℕ) (w : Written) : Type 0 where
 pub record RemoveExact : Type 0 where
   pub condition : (kv rbp name : List ℕ) → (storeRemove kv rbp name .status ≡ ok) ↔ Removable kv rbp name
   pub clears : (kv rbp name : List ℕ) (h : Removable kv rbp name) → Clears kv rbp name (h .r) (storeRemove kv rbp name)
+
+-- ---- reset: "1 only. Done: both buffers are all zero."
+
+pub record AreasSized (kv rbp : List ℕ) : Type 0 where
+  pub kv-sized : sized kvFormat kv ≡ true
+  pub rbp-sized : sized rbpFormat rbp ≡ true
+
+pub record ResetExact : Type 0 where
+  pub condition : (kv rbp : List ℕ) → (storeReset kv rbp .status ≡ ok) ↔ AreasSized kv rbp
+  pub gives : (kv rbp : List ℕ) → AreasSized kv rbp → storeReset kv rbp ≡ record { status = ok; kv = zeros (length kv); rbp = zeros (length rbp) }
 
 -- ---- iterator_next
 

@@ -10,4 +10,8 @@ pub mod Interleaving
 pub mod Model
 pub mod Demands
 pub mod Facts
+pub mod Refusals
+pub mod ModelFacts
 pub mod Edges
+pub mod Bounds
+pub mod Shapes

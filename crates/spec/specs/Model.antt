@@ -1,5 +1,6 @@
 -- 01, "The book of demand 3": the reference model. It has no slots and no room: for each name a record or none, and a CMAC or none, in two finite
--- tables. Its steps share with the calls the decisions and the record, and nothing else.
+-- tables. Its steps share with the calls the tests of key and IV, the decisions, the effects and what a get or info gives of a record; of areas they
+-- know nothing.
 use mathlib.Core.Bool.{true, cond, _&&_}
 use mathlib.Core.List.{List, [], _∷_}
 use mathlib.Core.Option.{Option, none, some}
@@ -60,7 +61,7 @@ abbrev pub consItem : Option Name → List ℕ → List Item → List Item
 consItem none payload t = t
 consItem (some name) payload t = record { name = name; payload = payload } ∷ t
 
--- what the used slots of an area hold
+-- what the slots of an area hold that are not all zero, which in an intact area are the used ones
 abbrev pub itemsOf : Format → List (List ℕ) → List Item
 itemsOf F [] = []
 itemsOf F (s ∷ ss) = consItem (slotHolder F s) (slotPayload F s) (itemsOf F ss)
