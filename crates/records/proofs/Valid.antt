@@ -1,6 +1,6 @@
 -- What a valid record's parts are, and how long they are. Assumes nothing.
 use mathlib.Core.Path.{_≡_}
-use mathlib.Core.Bool.{true, false, _&&_}
+use mathlib.Core.Bool.{true, false, _&&_, and-assoc}
 use mathlib.Core.List.{List}
 use Prim.Native.Nat.{ℕ, _+_, _-_, _≤_, _<_}
 use native.Mathlib.Omega.{arith}
@@ -12,7 +12,6 @@ use Rattle.cipher.proofs.Lengths.{cmac-length}
 use Rattle.spec.specs.Record.{validFlags, maxDataSize, metadataSizeOf, revisionOf, dataSizeOf, flagsOf, metadataOf, storedDataOf, tagOf, recordValid, recordCmac}
 use Rattle.spec.proofs.Split.{split, both}
 use Rattle.records.specs.Parts.{fieldsValid, zerosValid, cmacOver}
-use Rattle.records.proofs.Folds.{and-assoc}
 
 pub valid-halves : (revision : ℕ) (r : List ℕ) → recordValid revision r ≡ (fieldsValid revision r && zerosValid r)
 unfolding recordValid fieldsValid zerosValid

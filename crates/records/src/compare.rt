@@ -1,7 +1,7 @@
-// Tests on byte strings that look at every byte and decide at the end, so that the time says nothing of the bytes.
+// A comparison that looks at every byte and decides at the end, so that the time says nothing of the bytes.
 ghost use mathlib.Core.Path.{_≡_};
 ghost use lib.ListN.{length};
-ghost use Rattle.spec.specs.Bytes.{bytesEq, allZero};
+ghost use Rattle.spec.specs.Bytes.{bytesEq};
 ghost use Rattle.records.specs.Compare.{diffAccumulate};
 
 // The bits in which two byte strings of one length differ, at any place.
@@ -24,16 +24,4 @@ pub fn tags_equal_ct(a: &[u8], b: &[u8]) -> bool
     ensures { λ r. ⌜ r ≡ bytesEq (now (a .entry)) (now (b .entry)) ⌝ }
 {
     diff_accumulate(a, b) == 0
-}
-
-pub fn all_zero(s: &[u8]) -> bool
-    ensures { λ r. ⌜ r ≡ allZero (now (s .entry)) ⌝ }
-{
-    let mut bits: u8 = 0;
-    let mut i = 0;
-    while i < s.len() {
-        bits = bits | s[i];
-        i += 1;
-    }
-    bits == 0
 }

@@ -1,8 +1,8 @@
 // A stored record: whether it is valid, and its fields. Metadata size at 0, revision at 2, data size at 4, flags at 8, IV at 12,
 // data at 20, the CMAC in the last 16 bytes.
-use crate::compare;
 use crate::flags;
 use crate::numbers;
+use slots::names;
 ghost use mathlib.Core.Path.{_≡_};
 ghost use mathlib.Core.Bool.{true, _||_};
 ghost use lib.ListN.{length};
@@ -39,7 +39,7 @@ fn fields_valid(r: &[u8]) -> bool
 fn zero_unless(asked: bool, part: &[u8]) -> bool
     ensures { λ v. ⌜ v ≡ (asked || allZero (now (part .entry))) ⌝ }
 {
-    asked || compare::all_zero(part)
+    asked || names::all_zero(part)
 }
 
 // IV and CMAC are zero where the flags do not ask for them.
