@@ -31,5 +31,6 @@ pub fn tag_matches(tag: &[u8], r: &[u8]) -> bool
     requires { ⌜ (length (now tag) ≡ 16) × (recordValid revision1 (now r) ≡ true) ⌝ }
     ensures { λ same. ⌜ same ≡ bytesEq (now (tag .entry)) (tagOf (now (r .entry))) ⌝ }
 {
-    compare::tags_equal_ct(tag, record::record_tag(r))
+    let own = record::record_tag(r);
+    compare::tags_equal_ct(tag, own)
 }

@@ -1,9 +1,9 @@
 // Making a record.
-use crate::arrays;
 use crate::flags;
 use crate::mac;
 use crate::numbers;
 use crate::record;
+use slots::buffers;
 ghost use mathlib.Core.Path.{_≡_};
 ghost use mathlib.Core.List.{_++_};
 ghost use Prim.Native.Nat.{_+_, _≤_};
@@ -20,7 +20,7 @@ fn put_metadata(revision: u32, data_size: u32, flags: u32, iv: [u8; 8], dst: &mu
     numbers::put_u16(revision, dst, 2);
     numbers::put_u32(data_size, dst, 4);
     numbers::put_u32(flags, dst, 8);
-    arrays::put_bytes(&iv, dst, 12);
+    buffers::paste(dst, 12, &iv);
 }
 
 // Without confidentiality the IV is zero, whatever was lent.
@@ -104,7 +104,7 @@ fn seal_into(
     );
     put_crypted(device_key, name, flags, iv, value, record_buf, 20);
     let tag = sealed_tag(device_key, name, flags, &record_buf[..covered]);
-    arrays::put_bytes(&tag, record_buf, covered);
+    buffers::paste(record_buf, covered, &tag);
 }
 
 // 01: the "working record", which starts as all zeros.

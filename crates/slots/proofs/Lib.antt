@@ -6,4 +6,3 @@ pub mod SlotLaws
 pub mod AreaLaws
 pub mod Lookup
 pub mod Edits
-pub mod Walk

@@ -1,5 +1,6 @@
 // An area of slots, tested and edited where it is lent.
 use crate::AreaKind;
+use crate::buffers;
 use crate::names;
 use crate::slot;
 ghost use mathlib.Core.Path.{_≡_};
@@ -7,7 +8,7 @@ ghost use mathlib.Core.Bool.{true, false};
 ghost use mathlib.Core.List.{[]};
 ghost use Prim.Native.Nat.{_+_, _≤_, _<_};
 ghost use lib.ListN.{length, getD, set, drop};
-ghost use Rattle.spec.specs.Bytes.{every, isSome, zeros};
+ghost use Rattle.spec.specs.Bytes.{every, isSome};
 ghost use Rattle.spec.specs.Name.{validName};
 ghost use Rattle.spec.specs.Slots.{distinct, joinSlots, firstIndex};
 ghost use Rattle.spec.specs.Area.{kvFormat, payloadSize, slotFree, slotValid, slotHolder, holds, makeSlot, slotCount, slots, sized, names, intact, lookup, hasSpace, insertSlot, eraseSlot};
@@ -191,14 +192,8 @@ pub fn erase_slot(kind: AreaKind, area: &mut [u8], name: &[u8])
         let w = slot::slot_size(kind);
         let at = i * w;
         let end = at + w;
-        slot::clear(&mut area[at..end]);
+        buffers::clear(&mut area[at..end]);
     }
-}
-
-pub fn clear(area: &mut [u8])
-    ensures { λ _. ⌜ now (area .exit) ≡ zeros (length (now (area .entry))) ⌝ }
-{
-    slot::clear(area)
 }
 
 // 01: the next slot of a "walk"

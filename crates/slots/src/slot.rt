@@ -1,12 +1,12 @@
 // One slot: where its parts stand, whether it is well shaped, who uses it, and how it is written.
 use crate::AreaKind;
+use crate::buffers;
 use crate::names;
 ghost use mathlib.Core.Path.{_≡_};
 ghost use mathlib.Core.Bool.{true};
 ghost use mathlib.Core.List.{_++_};
 ghost use Prim.Native.Nat.{_+_, _≤_};
 ghost use lib.ListN.{length, take, drop};
-ghost use Rattle.spec.specs.Bytes.{zeros};
 ghost use Rattle.spec.specs.Area.{payloadSize, slotName, slotPayload, slotUsed, slotValid, holds, makeSlot};
 ghost use Rattle.spec.specs.Calls.{hasPrefix, slotHasPrefix};
 ghost use Rattle.slots.specs.Kind.{formatOf};
@@ -140,24 +140,6 @@ pub(crate) fn slot_has_prefix(slot: &[u8], prefix: &[u8]) -> bool
     has_prefix(slot_name(AreaKind::Kv, slot), prefix)
 }
 
-pub(crate) fn clear(part: &mut [u8])
-    ensures { λ _. ⌜ now (part .exit) ≡ zeros (length (now (part .entry))) ⌝ }
-{
-    let mut i = 0;
-    while i < part.len() {
-        part[i] = 0;
-        i += 1;
-    }
-}
-
-fn paste(dst: &mut [u8], at: usize, src: &[u8])
-    requires { ⌜ at + length (now src) ≤ length (now dst) ⌝ }
-    ensures { λ _. ⌜ now (dst .exit) ≡ take at (now (dst .entry)) ++ (now (src .entry) ++ drop (at + length (now (src .entry))) (now (dst .entry))) ⌝ }
-{
-    let end = at + src.len();
-    bytes::copy(src, &mut dst[at..end]);
-}
-
 fn put_header(kind: AreaKind, slot: &mut [u8], name: &[u8], payload: &[u8])
     requires { ⌜ (length (now slot) ≡ formatOf kind .slotSize) × (length (now name) ≤ 64) × (length (now payload) ≤ 516) ⌝ }
     ensures { λ _. ⌜ now (slot .exit) ≡ formatOf kind .header (now (name .entry)) (now (payload .entry)) ++ drop (formatOf kind .nameOffset) (now (slot .entry)) ⌝ }
@@ -178,8 +160,8 @@ pub(crate) fn make_slot(kind: AreaKind, slot: &mut [u8], name: &[u8], payload: &
     requires { ⌜ (length (now slot) ≡ formatOf kind .slotSize) × (length (now name) ≤ 64) × (length (now payload) ≤ payloadSize (formatOf kind)) ⌝ }
     ensures { λ _. ⌜ now (slot .exit) ≡ makeSlot (formatOf kind) (now (name .entry)) (now (payload .entry)) ⌝ }
 {
-    clear(slot);
+    buffers::clear(slot);
     put_header(kind, slot, name, payload);
-    paste(slot, name_offset(kind), name);
-    paste(slot, payload_offset(kind), payload);
+    buffers::paste(slot, name_offset(kind), name);
+    buffers::paste(slot, payload_offset(kind), payload);
 }

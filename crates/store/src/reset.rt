@@ -2,6 +2,7 @@
 use crate::status;
 use slots::AreaKind;
 use slots::areas;
+use slots::buffers;
 ghost use mathlib.Core.Path.{_≡_};
 ghost use Rattle.spec.specs.Calls as Calls;
 ghost use Rattle.store.specs.Answers.{written};
@@ -15,7 +16,7 @@ pub fn reset(kv: &mut [u8], rbp: &mut [u8]) -> u32
     if !areas::area_sized(AreaKind::Rbp, rbp) {
         return status::ERR_LENGTH;
     }
-    areas::clear(kv);
-    areas::clear(rbp);
+    buffers::clear(kv);
+    buffers::clear(rbp);
     status::OK
 }

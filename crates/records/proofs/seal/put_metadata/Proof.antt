@@ -25,11 +25,11 @@ put-u32-requires c κs = search needs
 put-u32-requires-2 : tie.Need-put-u32-requires-2
 put-u32-requires-2 c κs = search needs
 
-slice-aggregate-put-bytes : tie.Need-slice-aggregate-put-bytes
-slice-aggregate-put-bytes c = search needs
+slice-aggregate-paste : tie.Need-slice-aggregate-paste
+slice-aggregate-paste c = search needs
 
-put-bytes-requires : tie.Need-put-bytes-requires
-put-bytes-requires c κs = search needs
+paste-requires : tie.Need-paste-requires
+paste-requires c κs = search needs
 
 same-length : tie.Need-same-length
 same-length c = search needs
@@ -48,7 +48,7 @@ returns c =
     let w2 : c .before .before .before .before .before .before .before .before .before .before .before .before .before .before .before .put-u162 .last .1 .0 ≡ f2 ++ drop 4 d = c .before .before .before .before .before .before .before .before .before .before .before .before .before .before .before .put-u162 .ensures ∙ ap (λ (l : List ℕ). putAt l 2 (leBytes 2 (a .revision))) (c .before .before .before .before .before .before .before .before .before .before .before .before .before .before .before .before .before .before .before .put-u16 .ensures) ∙ put-next d f1 (leBytes 2 (a .revision)) 2 refl in
     let w3 : c .before .before .before .before .before .before .before .before .before .before .before .put-u32 .last .1 .0 ≡ f3 ++ drop 8 d = c .before .before .before .before .before .before .before .before .before .before .before .put-u32 .ensures ∙ ap (λ (l : List ℕ). putAt l 4 (leBytes 4 (a .data-size))) w2 ∙ put-next d f2 (leBytes 4 (a .data-size)) 4 refl in
     let w4 : c .before .before .before .before .before .before .before .put-u322 .last .1 .0 ≡ f4 ++ drop 12 d = c .before .before .before .before .before .before .before .put-u322 .ensures ∙ ap (λ (l : List ℕ). putAt l 8 (leBytes 4 (a .flags))) w3 ∙ put-next d f3 (leBytes 4 (a .flags)) 8 refl in
-    c .before .before .put-bytes .ensures ∙ ap (λ (l : List ℕ). putAt l 12 (a .t4)) w4 ∙ put-next d f4 (a .t4) 12 refl ∙ ap (λ (k : ℕ). (f4 ++ a .t4) ++ drop (12 + k) d) iv-sized
+    c .before .before .paste .ensures ∙ ap (λ (l : List ℕ). putAt l 12 (a .t4)) w4 ∙ put-next d f4 (a .t4) 12 refl ∙ ap (λ (k : ℕ). (f4 ++ a .t4) ++ drop (12 + k) d) iv-sized
 
 pub put-metadata-spec : {M : Type 1} → statement M
 put-metadata-spec =
@@ -58,7 +58,7 @@ put-metadata-spec =
     put-u16-requires-2
     put-u32-requires
     put-u32-requires-2
-    slice-aggregate-put-bytes
-    put-bytes-requires
+    slice-aggregate-paste
+    paste-requires
     same-length
     returns)

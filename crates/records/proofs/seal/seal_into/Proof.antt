@@ -34,11 +34,11 @@ slice-aggregate-sealed-tag c = sym (length-take-le _ _ (omega arith))
 sealed-tag-requires : tie.Need-sealed-tag-requires
 sealed-tag-requires c κs = search needs
 
-slice-aggregate-put-bytes : tie.Need-slice-aggregate-put-bytes
-slice-aggregate-put-bytes c = search needs
+slice-aggregate-paste : tie.Need-slice-aggregate-paste
+slice-aggregate-paste c = search needs
 
-put-bytes-requires : tie.Need-put-bytes-requires
-put-bytes-requires c κs = search needs
+paste-requires : tie.Need-paste-requires
+paste-requires c κs = search needs
 
 same-length : tie.Need-same-length
 same-length c = search needs
@@ -48,7 +48,7 @@ returns c =
     let start = c .before .before .before .before .before .before .before .before .before .before .before .before .before .before .before .before .before .before .before in
     let a = start .args in
     sealed-steps revision1 (a .device-key) (a .name .now) (a .flags) (a .iv) (a .value .now) (array-length w8 8 (a .iv) _ (start .good .1 .1 .1 .0))
-    (a .record-buf .now) _ _ _ _ _ (c .before .before .before .before .before .before .before .before .before .before .before .before .before .before .before .sealed-iv .ensures) (c .before .before .before .before .before .before .before .before .before .before .before .before .before .put-metadata .ensures) (c .before .before .before .before .before .before .before .before .before .put-crypted .ensures) (c .before .before .before .before .before .sealed-tag .ensures) (c .before .before .put-bytes .ensures)
+    (a .record-buf .now) _ _ _ _ _ (c .before .before .before .before .before .before .before .before .before .before .before .before .before .before .before .sealed-iv .ensures) (c .before .before .before .before .before .before .before .before .before .before .before .before .before .put-metadata .ensures) (c .before .before .before .before .before .before .before .before .before .put-crypted .ensures) (c .before .before .before .before .before .sealed-tag .ensures) (c .before .before .paste .ensures)
 
 pub seal-into-spec : {M : Type 1} → statement M
 seal-into-spec =
@@ -62,7 +62,7 @@ seal-into-spec =
     slice-reshare-prefix-sealed-tag
     slice-aggregate-sealed-tag
     sealed-tag-requires
-    slice-aggregate-put-bytes
-    put-bytes-requires
+    slice-aggregate-paste
+    paste-requires
     same-length
     returns)

@@ -1,12 +1,12 @@
--- `slots::slot::paste`: one part of the buffer is the copy.
+-- `slots::buffers::paste`: one part of the buffer is the copy.
 use mathlib.Core.Path.{_∙_, ap}
 use mathlib.Core.List.{List, _++_}
 use Prim.Native.Nat.{ℕ, _+_, _-_}
 use borrow.Author.Needs.{needs}
 use lib.ListN.{length, take, drop}
 use Rattle.slots.proofs.SlotBytes.{pasted}
-use Rattle.slots.proofs.slot.paste.Statement.{statement}
-use Rattle.slots.proofs.slot.paste.Tie as tie
+use Rattle.slots.proofs.buffers.paste.Statement.{statement}
+use Rattle.slots.proofs.buffers.paste.Tie as tie
 
 add-end : tie.Need-add-end
 add-end c = search needs

@@ -1,4 +1,4 @@
--- `slots::slot::clear`. The invariant: zeros before i, and the rest as lent.
+-- `slots::buffers::clear`. The invariant: zeros before i, and the rest as lent.
 use mathlib.Core.Path.{_≡_, _∙_}
 use mathlib.Core.List.{[], _++_, append-nil}
 use Prim.Native.Nat.{_-_, _≤_}
@@ -6,8 +6,8 @@ use native.Mathlib.Omega.{arith}
 use borrow.Author.Fill.{fill-none, fill-more}
 use borrow.Author.Needs.{needs}
 use lib.ListN.{length, length-set, drop, replicate, drop-of-length-le}
-use Rattle.slots.proofs.slot.clear.Statement.{statement}
-use Rattle.slots.proofs.slot.clear.Tie as tie
+use Rattle.slots.proofs.buffers.clear.Statement.{statement}
+use Rattle.slots.proofs.buffers.clear.Tie as tie
 
 abbrev Inv-loop : tie.InvT-loop
 Inv-loop part₀ i₀ part i = (i ≤ length part₀) × (length part ≡ length part₀) × (part ≡ replicate i 0 ++ drop i part₀)
