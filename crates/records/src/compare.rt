@@ -5,7 +5,7 @@ ghost use Rattle.spec.specs.Bytes.{bytesEq};
 ghost use Rattle.records.specs.Compare.{diffAccumulate};
 
 // The bits in which two byte strings of one length differ, at any place.
-pub fn diff_accumulate(a: &[u8], b: &[u8]) -> u8
+pub(crate) fn diff_accumulate(a: &[u8], b: &[u8]) -> u8
     requires { ⌜ length (now a) ≡ length (now b) ⌝ }
     ensures { λ r. ⌜ r ≡ diffAccumulate (now (a .entry)) (now (b .entry)) ⌝ }
 {
@@ -19,7 +19,7 @@ pub fn diff_accumulate(a: &[u8], b: &[u8]) -> u8
 }
 
 // Whether two CMACs are equal in all sixteen bytes.
-pub fn tags_equal_ct(a: &[u8], b: &[u8]) -> bool
+pub(crate) fn tags_equal_ct(a: &[u8], b: &[u8]) -> bool
     requires { ⌜ (length (now a) ≡ 16) × (length (now b) ≡ 16) ⌝ }
     ensures { λ r. ⌜ r ≡ bytesEq (now (a .entry)) (now (b .entry)) ⌝ }
 {

@@ -17,7 +17,7 @@ pub fn put_le(value: u32, dst: &mut [u8])
     }
 }
 
-pub fn put_u16(value: u32, dst: &mut [u8], at: usize)
+pub(crate) fn put_u16(value: u32, dst: &mut [u8], at: usize)
     requires { ⌜ at + 2 ≤ length (now dst) ⌝ }
     ensures { λ _. ⌜ now (dst .exit) ≡ putAt (now (dst .entry)) at (leBytes 2 value) ⌝ }
 {
@@ -25,7 +25,7 @@ pub fn put_u16(value: u32, dst: &mut [u8], at: usize)
     put_le(value, &mut dst[at..end])
 }
 
-pub fn put_u32(value: u32, dst: &mut [u8], at: usize)
+pub(crate) fn put_u32(value: u32, dst: &mut [u8], at: usize)
     requires { ⌜ at + 4 ≤ length (now dst) ⌝ }
     ensures { λ _. ⌜ now (dst .exit) ≡ putAt (now (dst .entry)) at (leBytes 4 value) ⌝ }
 {
@@ -33,7 +33,7 @@ pub fn put_u32(value: u32, dst: &mut [u8], at: usize)
     put_le(value, &mut dst[at..end])
 }
 
-pub fn read_le(src: &[u8]) -> u32
+pub(crate) fn read_le(src: &[u8]) -> u32
     requires { ⌜ length (now src) ≤ 4 ⌝ }
     ensures { λ r. ⌜ r ≡ leValue (now (src .entry)) ⌝ }
 {
@@ -46,7 +46,7 @@ pub fn read_le(src: &[u8]) -> u32
     value
 }
 
-pub fn u16_at(l: &[u8], at: usize) -> u32
+pub(crate) fn u16_at(l: &[u8], at: usize) -> u32
     requires { ⌜ at + 2 ≤ length (now l) ⌝ }
     ensures { λ r. ⌜ r ≡ u16At (now (l .entry)) at ⌝ }
 {
@@ -54,7 +54,7 @@ pub fn u16_at(l: &[u8], at: usize) -> u32
     read_le(&l[at..end])
 }
 
-pub fn u32_at(l: &[u8], at: usize) -> u32
+pub(crate) fn u32_at(l: &[u8], at: usize) -> u32
     requires { ⌜ at + 4 ≤ length (now l) ⌝ }
     ensures { λ r. ⌜ r ≡ u32At (now (l .entry)) at ⌝ }
 {

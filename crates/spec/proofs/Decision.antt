@@ -11,14 +11,14 @@ use lib.ListN.{length}
 use Rattle.spec.specs.Bytes.{isSome}
 use Rattle.spec.specs.Status.{ok, refuseIf}
 use Rattle.spec.specs.Name.{Name, validName}
-use Rattle.spec.specs.Record.{writeOnce, requireReplayProtection, validFlags, revision1, maxDataSize, flagsOf, tagOf, sealRecord}
+use Rattle.spec.specs.Record.{writeOnce, requireReplayProtection, validFlags, revision1, maxDataSize, flagsOf, tagOf, sealRecord, Sealable}
 use Rattle.spec.specs.Area.{kvFormat, rbpFormat}
 use Rattle.spec.specs.Binding.{Binding, setHeld, lacksSpace, setDecision}
 use Rattle.spec.specs.Demands.{Replaceable}
 use Rattle.spec.proofs.Split.{split, splitO, clash, clashO, neither, not-false-is}
 use Rattle.spec.proofs.Slot.{kv-fits, rbp-fits}
 use Rattle.spec.proofs.Area.{Good}
-use Rattle.spec.proofs.Record.{Sealable, sealed-length, sealed-tag-length}
+use Rattle.spec.proofs.Record.{sealed-length, sealed-tag-length}
 use Rattle.spec.proofs.Status.{passed}
 
 -- what is asked of what the name has: of a record on the card, or of none

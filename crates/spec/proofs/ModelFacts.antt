@@ -9,7 +9,7 @@ use borrow.Author.Tests.{eqb-true, eqb-false}
 use lib.ListN.{length}
 use Rattle.spec.specs.Status.{ok, isOk, refuseIf, onOk}
 use Rattle.spec.specs.Name.{Name}
-use Rattle.spec.specs.Record.{requireReplayProtection, revision1, dataSizeOf, flagsOf, tagOf, metadata, encKey, authKey, crypt, recordCmac, sealedIv, sealedData, sealedTag, sealRecord, plaintext}
+use Rattle.spec.specs.Record.{requireReplayProtection, revision1, dataSizeOf, flagsOf, tagOf, metadata, encKey, authKey, crypt, recordCmac, sealedIv, sealedData, sealedTag, sealRecord, plaintext, Sealable}
 use Rattle.spec.specs.Area.{keep, write, clear}
 use Rattle.spec.specs.Binding.{Binding, Effect, recordOf, setEffect, readCount, readOutput, removeEffect}
 use Rattle.spec.specs.Calls.{keySized, ivSized, guarded}
@@ -20,7 +20,7 @@ use Rattle.spec.specs.ModelFacts.{callRefusals, ModelOrdered, ModelDone,
 use Rattle.spec.proofs.Split.{split, both}
 use Rattle.spec.proofs.Area.{editOption}
 use Rattle.spec.proofs.Status.{guard-passed, on-ok, on-refused}
-use Rattle.spec.proofs.Record.{Sealable, sealed-tag}
+use Rattle.spec.proofs.Record.{sealed-tag}
 use Rattle.spec.proofs.Decision.{lacks-none, decided, decided-sealable}
 use Rattle.spec.proofs.Model.{table-same, table-other, model-start}
 use Rattle.spec.proofs.Refusals.{nonzero, first-none, none-first, key-first, iv-first, not-both, set-first, get-first, remove-first}

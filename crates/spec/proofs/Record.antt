@@ -12,7 +12,7 @@ use Rattle.cipher.specs.Ctr.{ctr}
 use Rattle.cipher.proofs.CtrLaws.{ctr-twice, ctr-length}
 use Rattle.cipher.proofs.Lengths.{cmac-length}
 use Rattle.spec.specs.Bytes.{allZero}
-use Rattle.spec.specs.Record.{requireConfidentiality, requireIntegrity, requireReplayProtection, validFlags, maxDataSize, metadata, metadataSizeOf, revisionOf, dataSizeOf, flagsOf, ivOf, metadataOf, storedDataOf, tagOf, recordValid, encKey, crypt, recordCmac, sealedIv, sealedData, sealedTag, sealRecord, macOk, plaintext}
+use Rattle.spec.specs.Record.{requireConfidentiality, requireIntegrity, requireReplayProtection, validFlags, maxDataSize, metadata, metadataSizeOf, revisionOf, dataSizeOf, flagsOf, ivOf, metadataOf, storedDataOf, tagOf, recordValid, encKey, crypt, recordCmac, sealedIv, sealedData, sealedTag, sealRecord, macOk, plaintext, Sealable}
 use Rattle.spec.proofs.Split.{split, both}
 use Rattle.spec.proofs.Bytes.{bytesEq-refl, le-value}
 
@@ -55,13 +55,6 @@ crypt-length key name iv m = ctr-length (encKey key name) iv m
 pub recordCmac-length : (key name meta stored : List ℕ) → length (recordCmac key name meta stored) ≡ 16
 unfolding recordCmac
 recordCmac-length key name meta stored = cmac-length _ _
-
--- what a set has tested of its arguments before it seals them
-pub record Sealable (revision flags : ℕ) (iv value : List ℕ) : Type 0 where
-  pub revision-small : revision < 65536
-  pub flags-valid : validFlags flags ≡ true
-  pub iv-sized : length iv ≡ 8
-  pub value-sized : length value ≤ maxDataSize
 
 module _ (revision : ℕ) (key name : List ℕ) (flags : ℕ) (iv value : List ℕ) (ready : Sealable revision flags iv value) where
   abbrev meta : List ℕ

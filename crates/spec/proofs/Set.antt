@@ -9,7 +9,7 @@ use lib.Dec.{ltb}
 use lib.ListN.{length, drop}
 use lib.Seq.{take-length}
 use Rattle.spec.specs.Status.{ok, refuseIf}
-use Rattle.spec.specs.Record.{requireIntegrity, requireReplayProtection, validFlags, revision1, metadata, dataSizeOf, tagOf, encKey, authKey, crypt, recordCmac, sealedIv, sealedData, sealedTag, sealRecord, plaintext}
+use Rattle.spec.specs.Record.{requireIntegrity, requireReplayProtection, validFlags, revision1, metadata, dataSizeOf, tagOf, encKey, authKey, crypt, recordCmac, sealedIv, sealedData, sealedTag, sealRecord, plaintext, Sealable}
 use Rattle.spec.specs.Slots.{firstIndex}
 use Rattle.spec.specs.Area.{Format, kvFormat, rbpFormat, slotFree, slotHolder, makeSlot, slotCount, slots, hasSpace, target, insertSlot, keep, write, editArea}
 use Rattle.spec.specs.Binding.{setEffect}
@@ -22,7 +22,7 @@ use Rattle.spec.proofs.Slot.{kv-laws, rbp-laws}
 use Rattle.spec.proofs.Area.{Sound, sized-length, Good, HasRoom, target-any, insert-sound, lookup-insert}
 use Rattle.spec.proofs.Decision.{Decided, decided, decided-sealable, decided-ok, sealed-kv-good, sealed-rbp-good}
 use Rattle.spec.proofs.First.{first-in-range, any-at, first-passes, first-lowest, splice}
-use Rattle.spec.proofs.Record.{valid-flags-small, Sealable, sealed-length, sealed-data-size, sealed-flags, sealed-tag, sealed-tag-length, sealed-valid, sealed-mac, sealed-plaintext}
+use Rattle.spec.proofs.Record.{valid-flags-small, sealed-length, sealed-data-size, sealed-flags, sealed-tag, sealed-tag-length, sealed-valid, sealed-mac, sealed-plaintext}
 use Rattle.spec.proofs.Status.{guard-passed, on-ok}
 use Rattle.spec.proofs.Get.{undamaged-of, mac-eq, get-exact, given-status}
 

@@ -1,7 +1,8 @@
 -- 01, "The record": metadata (20 bytes), the stored data, 16 bytes of CMAC.
-use mathlib.Core.Bool.{Bool, cond, not, _&&_, _||_}
+use mathlib.Core.Path.{_≡_}
+use mathlib.Core.Bool.{Bool, true, cond, not, _&&_, _||_}
 use mathlib.Core.List.{List, _++_}
-use Prim.Native.Nat.{ℕ, _+_, _-_, _/_, _%_}
+use Prim.Native.Nat.{ℕ, _+_, _-_, _/_, _%_, _<_, _≤_}
 use lib.Dec.{eqb, leb, ltb}
 use lib.ListN.{length, take, drop}
 use Rattle.cipher.specs.Cmac.{cmac}
@@ -96,6 +97,13 @@ sealedData key name flags iv value = cond (requireConfidentiality flags) (crypt 
 -- "Without integrity the 16 bytes are zero."
 unfoldable pub sealedTag : List ℕ → Name → ℕ → List ℕ → List ℕ → List ℕ
 sealedTag key name flags meta stored = cond (requireIntegrity flags) (recordCmac key name meta stored) (zeros 16)
+
+-- what a set has tested of its arguments before it seals them
+pub record Sealable (revision flags : ℕ) (iv value : List ℕ) : Type 0 where
+  pub revision-small : revision < 65536
+  pub flags-valid : validFlags flags ≡ true
+  pub iv-sized : length iv ≡ 8
+  pub value-sized : length value ≤ maxDataSize
 
 -- the record that a set makes of its arguments
 unfoldable pub sealRecord : ℕ → List ℕ → Name → ℕ → List ℕ → List ℕ → List ℕ

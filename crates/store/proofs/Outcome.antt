@@ -10,7 +10,7 @@ use lib.ListN.{length, getD}
 use borrow.Author.Tests.{eqb-true, leb-true}
 use Rattle.spec.specs.Status.{ok, onOk}
 use Rattle.spec.specs.Name.{validName}
-use Rattle.spec.specs.Record.{revision1, recordValid, dataSizeOf}
+use Rattle.spec.specs.Record.{revision1, recordValid, dataSizeOf, Sealable}
 use Rattle.spec.specs.Area.{kvFormat, rbpFormat, sized, intact, lookup, hasSpace, editArea, slotFree, slotHolder, slotName, slotCount, slots}
 use Rattle.spec.specs.Binding.{Effect, recordOf, setDecision}
 use Rattle.spec.specs.Calls.{Written, Got, Info, Iterated, areasSized, areasIntact, keySized, ivSized, bindingOf, written, setStatus, getStatus, removeStatus, storeGet, storeRemove, nameOr, nextMatch, iteratorStatus, storeIteratorNext}
@@ -18,7 +18,6 @@ use Rattle.spec.proofs.Split.{both, split, clashO}
 use Rattle.spec.proofs.Status.{guard-passed, on-refused, on-ok}
 use Rattle.spec.proofs.Name.{valid-length}
 use Rattle.spec.proofs.Slot.{used-slot}
-use Rattle.spec.proofs.Record.{Sealable}
 use Rattle.spec.proofs.Decision.{decided, decided-sealable}
 use Rattle.spec.proofs.Get.{get-exact}
 use Rattle.spec.proofs.Remove.{remove-exact}
