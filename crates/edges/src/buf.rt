@@ -10,10 +10,6 @@ pub fn part(s: &[u8], from: usize, to: usize) -> &[u8] {
     s
 }
 
-pub fn byte_at(s: &[u8], at: usize) -> u8 {
-    if at < s.len() { s[at] } else { 0 }
-}
-
 pub fn poke(s: &mut [u8], at: usize, byte: u8) {
     if at < s.len() {
         s[at] = byte;
