@@ -69,7 +69,7 @@ pub fn record_data_size(r: &[u8]) -> u32
 }
 
 // The CMAC as stored.
-pub fn record_tag<'a>(r: &'a [u8]) -> &'a [u8]
+pub(crate) fn record_tag<'a>(r: &'a [u8]) -> &'a [u8]
     requires { ⌜ recordValid revision1 (now r) ≡ true ⌝ }
     ensures { λ t. ⌜ now t ≡ tagOf (now (r .entry)) ⌝ }
 {
