@@ -1,18 +1,15 @@
 -- The definitions on slots, as a loop over the flat buffer has them: an index, and the bytes from there.
 use mathlib.Core.Path.{_≡_, refl, sym, _∙_}
-use mathlib.Core.Bool.{Bool, true, false, cond, _&&_}
+use mathlib.Core.Bool.{Bool, true, false, _&&_}
 use mathlib.Core.List.{List, [], _∷_, _++_}
 use Prim.Native.Nat.{ℕ, zero, suc, _+_, _-_, _*_, _<_}
 use native.Mathlib.Nat.{not-suc-le-zero, le-of-suc-le-suc}
-use native.Mathlib.Omega.{arith}
 use borrow.Author.Tests.{ltb-true}
 use lib.Dec.{ltb, leb·suc-suc, leb·zero}
 use lib.ListN.{length, take, drop, getD, set, getElem?}
 use lib.Seq.{drop-cons}
 use Rattle.spec.specs.Bytes.{any, every}
-use mathlib.Core.Option.{Option}
-use Rattle.spec.specs.Name.{Name}
-use Rattle.spec.specs.Slots.{consName, namesBy, chunks, joinSlots, replaceFirst, firstIndex, findFirst}
+use Rattle.spec.specs.Slots.{chunks, joinSlots, replaceFirst, firstIndex, findFirst}
 use Rattle.spec.specs.Area.{Format, slotCount, slots}
 use Rattle.spec.proofs.Split.{split, clash}
 use Rattle.spec.proofs.Chunks.{length-chunks, chunk-at, join-set}
@@ -56,18 +53,7 @@ pub splice : (F : Format) (t : List ℕ → Bool) (q l : List ℕ) → length l 
     → joinSlots (replaceFirst t q (slots F l)) ≡ take (firstIndex t (slots F l) * F .slotSize) l ++ (q ++ drop (firstIndex t (slots F l) * F .slotSize + F .slotSize) l)
 splice F t q l h k = rw replaceFirst-set (join-set (F .slotSize) (slotCount F l) (firstIndex t (slots F l)) l q h (first-in-range F t l k))
 
--- One turn of a loop: what the test says of `&l[i * w..i * w + w]` decides, from index i on.
-pub first-at : (w k i : ℕ) (t : List ℕ → Bool) (l : List ℕ) (r : Bool) → i < k → r ≡ t (take (i * w + w - i * w) (drop (i * w) l))
-    → firstIndex t (drop i (chunks w k l)) ≡ cond r 0 (suc (firstIndex t (drop (suc i) (chunks w k l))))
-first-at w k i t l r h e =
-    let z : i * w + w - i * w ≡ w = omega arith in
-    rw (drop-cons (chunks w k l) i [] (rw length-chunks h), chunk-at w k i l h, rw z at e)
-
--- the same for a test of every slot, and for the names in use
+-- One turn of a loop: a test of every slot, from index i on.
 pub every-at : (w k i : ℕ) (t : List ℕ → Bool) (l : List ℕ) → i < k
     → every t (drop i (chunks w k l)) ≡ (t (take w (drop (i * w) l)) && every t (drop (suc i) (chunks w k l)))
 every-at w k i t l h = rw (drop-cons (chunks w k l) i [] (rw length-chunks h), chunk-at w k i l h)
-
-pub names-at : (w k i : ℕ) (holder : List ℕ → Option Name) (l : List ℕ) → i < k
-    → namesBy holder (drop i (chunks w k l)) ≡ consName (holder (take w (drop (i * w) l))) (namesBy holder (drop (suc i) (chunks w k l)))
-names-at w k i holder l h = rw (drop-cons (chunks w k l) i [] (rw length-chunks h), chunk-at w k i l h)

@@ -1,6 +1,6 @@
 -- Laws of names. Nothing but what computes opens the definition of a valid byte elsewhere.
 use mathlib.Core.Path.{_≡_, refl, _∙_}
-use mathlib.Core.Bool.{true, false, _&&_}
+use mathlib.Core.Bool.{true, _&&_}
 use mathlib.Core.List.{List, [], _∷_, _++_}
 use Prim.Native.Nat.{ℕ, zero, suc, _+_, _/_, _%_, _≤_, _<_}
 use native.Mathlib.Omega.{arith}
@@ -10,15 +10,6 @@ use lib.ListN.{length, length-append}
 use Rattle.spec.specs.Bytes.{every}
 use Rattle.spec.specs.Name.{Name, validNameByte, validName, hexDigit, hexDigits, keyName}
 use Rattle.spec.proofs.Split.{split, both}
-
--- the fill of a name, and the first byte of a record's metadata, are not bytes of a name
-pub zero-not-valid : validNameByte 0 ≡ false
-unfolding validNameByte
-zero-not-valid = refl
-
-pub metadata-size-not-valid : validNameByte 0x14 ≡ false
-unfolding validNameByte
-metadata-size-not-valid = refl
 
 pub record ValidName (n : Name) : Type 0 where
   pub not-empty : 1 ≤ length n

@@ -1,6 +1,6 @@
 -- One slot: what a made slot holds, over the laws of a format, which both formats obey.
 use mathlib.Core.Path.{_≡_, refl, sym, ap, _∙_}
-use mathlib.Core.Bool.{true, false, _&&_}
+use mathlib.Core.Bool.{true, false}
 use mathlib.Core.List.{List, [], _∷_, _++_}
 use mathlib.Core.Option.{some}
 use Prim.Native.Nat.{ℕ, _+_, _-_, _≤_, _<_}
@@ -9,9 +9,9 @@ use borrow.Author.Tests.{eqb-true, leb-true, le-leb, ne-eqb}
 use lib.Dec.{eqb, lit<}
 use lib.ListN.{length, drop, length-append}
 use lib.Seq.{take-at, drop-at, drop-drop, drop-append-seam, take-append-seam}
-use Rattle.spec.specs.Bytes.{bytesEq, allZero, zeros, zeroFill}
+use Rattle.spec.specs.Bytes.{allZero, zeros, zeroFill}
 use Rattle.spec.specs.Name.{validName}
-use Rattle.spec.specs.Area.{Format, kvFormat, rbpFormat, stateByte, nameLength, slotFree, payloadSize, slotName, slotPayload, slotUsed, slotValid, slotHolder, makeSlot, holds}
+use Rattle.spec.specs.Area.{Format, kvFormat, rbpFormat, stateByte, nameLength, slotFree, payloadSize, slotName, slotPayload, slotUsed, slotValid, slotHolder, makeSlot}
 use Rattle.spec.proofs.Split.{split, both}
 use Rattle.spec.proofs.Bytes.{allZero-zeros, length-zeros, length-zeroFill, take-zeroFill, drop-zeroFill, le-value}
 use Rattle.spec.proofs.Name.{valid-length}
@@ -168,12 +168,5 @@ free-state (x ∷ s) h = eqb-true x 0 (both (eqb x 0) (allZero s) h .0)
 pub valid-state : (F : Format) (s : List ℕ) → slotValid F s ≡ true → slotFree s ≡ eqb (stateByte s) 0
 unfolding slotValid
 valid-state F s h = split (slotFree s)
-    (λ e. rw (e, free-state s e))
-    (λ e. rw (e, used-slot F s (rw e at h) .state))
-
--- .. and a name holds it when the state byte is 1 and the name is its own
-pub valid-holds : (F : Format) (n s : List ℕ) → slotValid F s ≡ true → holds F n s ≡ (eqb (stateByte s) 1 && bytesEq n (slotName F s))
-unfolding slotValid slotHolder
-valid-holds F n s h = split (slotFree s)
     (λ e. rw (e, free-state s e))
     (λ e. rw (e, used-slot F s (rw e at h) .state))
