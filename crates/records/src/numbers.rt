@@ -25,7 +25,7 @@ pub(crate) fn put_u16(value: u32, dst: &mut [u8], at: usize)
     put_le(value, &mut dst[at..end])
 }
 
-pub(crate) fn put_u32(value: u32, dst: &mut [u8], at: usize)
+pub fn put_u32(value: u32, dst: &mut [u8], at: usize)
     requires { ⌜ at + 4 ≤ length (now dst) ⌝ }
     ensures { λ _. ⌜ now (dst .exit) ≡ putAt (now (dst .entry)) at (leBytes 4 value) ⌝ }
 {
@@ -54,7 +54,7 @@ pub(crate) fn u16_at(l: &[u8], at: usize) -> u32
     read_le(&l[at..end])
 }
 
-pub(crate) fn u32_at(l: &[u8], at: usize) -> u32
+pub fn u32_at(l: &[u8], at: usize) -> u32
     requires { ⌜ at + 4 ≤ length (now l) ⌝ }
     ensures { λ r. ⌜ r ≡ u32At (now (l .entry)) at ⌝ }
 {

@@ -42,7 +42,7 @@ digits-valid : (k n : ℕ) → every validNameByte (hexDigits k n) ≡ true
 digits-valid zero n = refl
 digits-valid (suc k) n = every-append (hexDigits k (n / 16)) (hexDigit (n % 16) ∷ []) (digits-valid k (n / 16)) (rw (digit-valid (n % 16) (omega arith)))
 
-digits-length : (k n : ℕ) → length (hexDigits k n) ≡ k
+pub digits-length : (k n : ℕ) → length (hexDigits k n) ≡ k
 digits-length zero n = refl
 digits-length (suc k) n = length-append (hexDigits k (n / 16)) (hexDigit (n % 16) ∷ []) ∙ rw (digits-length k (n / 16)) (omega arith)
 

@@ -1,0 +1,190 @@
+-- The header read one field after the other is the header by offsets, where there is one; where there is none, the reader does not come to place 36.
+-- Assumes nothing.
+use mathlib.Core.Path.{_≡_, refl, sym, ap, _∙_}
+use mathlib.Core.Bool.{Bool, true, false, cond, _&&_}
+use mathlib.Core.List.{List}
+use Prim.Native.Nat.{ℕ, zero, suc, _+_, _*_, _≤_, _<_}
+use native.Mathlib.Omega.{arith}
+use borrow.Author.Tests.{leb-true, leb-false, le-leb, eqb-true, eq-eqb, ne-eqb, lt-leb}
+use lib.Dec.{eqb, leb}
+use lib.ListN.{length, take, drop, length-drop}
+use Rattle.spec.specs.Bytes.{bytesEq, u32At}
+use Rattle.spec.specs.Status.{ok}
+use Rattle.spec.proofs.Split.{split, clash, both}
+use Rattle.keys.specs.KeyFile.{mark, attributesOf, versionOf, materialLengthOf, keyFileValid, refusedFile, parseKeyFile}
+use Rattle.keys.specs.Reader.{hasBytes, takenAt, markAt, fieldAt, bytesAt, readHeader}
+use Rattle.keys.specs.declared.fields.Field.{Field}
+use Rattle.keys.specs.declared.parse.Header.{Header}
+use Rattle.keys.proofs.Taken.{has-end, has-bytes}
+
+-- the header by offsets
+abbrev pub headerOf : List ℕ → Header
+headerOf f = record { version = versionOf f; attributes = attributesOf f; «material_len» = materialLengthOf f; end = 36 }
+
+field-there : (f : List ℕ) (p : ℕ) → p + 4 ≤ length f → fieldAt f p ≡ record { status = ok; value = u32At f p; pos = p + 4 }
+unfolding fieldAt takenAt
+field-there f p h = rw (has-bytes f p 4 h)
+
+-- no field moves the place by more than its bytes, nor past the end
+taken-most : (b : Bool) (p n v : ℕ) → takenAt b p n v .pos ≤ p + n
+unfolding takenAt
+taken-most true p n v = omega arith
+taken-most false p n v = omega arith
+
+taken-within : (f : List ℕ) (b : Bool) (p n v : ℕ) → (b ≡ true → hasBytes f p n ≡ true) → p ≤ length f → takenAt b p n v .pos ≤ length f
+unfolding takenAt
+taken-within f true p n v e h = has-end f p n (e refl)
+taken-within f false p n v e h = h
+
+field-most : (f : List ℕ) (p : ℕ) → fieldAt f p .pos ≤ p + 4
+unfolding fieldAt
+field-most f p = taken-most (hasBytes f p 4) p 4 (u32At f p)
+
+field-within : (f : List ℕ) (p : ℕ) → p ≤ length f → fieldAt f p .pos ≤ length f
+unfolding fieldAt
+field-within f p h = taken-within f (hasBytes f p 4) p 4 (u32At f p) (λ e. e) h
+
+mark-within : (f : List ℕ) → markAt f 0 .pos ≤ length f
+unfolding markAt
+mark-within f = taken-within f (hasBytes f 0 8 && bytesEq (take 8 f) mark) 0 8 0 (λ e. both (hasBytes f 0 8) (bytesEq (take 8 f) mark) e .0) (omega arith)
+
+mark-there : (f : List ℕ) → 8 ≤ length f → bytesEq (take 8 f) mark ≡ true → markAt f 0 ≡ record { status = ok; value = 0; pos = 8 }
+unfolding markAt takenAt
+mark-there f h e = rw (has-bytes f 0 8 h, e)
+
+mark-wrong : (f : List ℕ) → bytesEq (take 8 f) mark ≡ false → markAt f 0 .pos ≡ 0
+unfolding markAt takenAt
+mark-wrong f e = split (hasBytes f 0 8) (λ h. rw (h, e)) (λ h. rw h)
+
+pub header-there : (f : List ℕ) → 36 ≤ length f → bytesEq (take 8 f) mark ≡ true → readHeader f ≡ headerOf f
+unfolding readHeader
+header-there f h e =
+    rw (
+      mark-there f (omega arith) e,
+      field-there f 8 (omega arith),
+      field-there f 12 (omega arith),
+      field-there f 16 (omega arith),
+      field-there f 20 (omega arith),
+      field-there f 24 (omega arith),
+      field-there f 28 (omega arith),
+      field-there f 32 (omega arith),
+    )
+
+-- the place after k fields
+abbrev placeAfter : ℕ → List ℕ → ℕ → ℕ
+placeAfter zero f p = p
+placeAfter (suc k) f p = placeAfter k f (fieldAt f p .pos)
+
+after-most : (k : ℕ) (f : List ℕ) (p : ℕ) → placeAfter k f p ≤ p + 4 * k
+after-most zero f p = omega arith
+after-most (suc k) f p = omega (arith, after-most k f (fieldAt f p .pos), field-most f p)
+
+after-within : (k : ℕ) (f : List ℕ) (p : ℕ) → p ≤ length f → placeAfter k f p ≤ length f
+after-within zero f p h = h
+after-within (suc k) f p h = after-within k f (fieldAt f p .pos) (field-within f p h)
+
+end-is : (f : List ℕ) → readHeader f .end ≡ placeAfter 7 f (markAt f 0 .pos)
+unfolding readHeader
+end-is f = refl
+
+-- who has come to place 36 has read a header
+pub header-long : (f : List ℕ) → readHeader f .end ≡ 36 → 36 ≤ length f
+header-long f e = omega (arith, end-is f, after-within 7 f (markAt f 0 .pos) (mark-within f))
+
+pub header-marked : (f : List ℕ) → readHeader f .end ≡ 36 → bytesEq (take 8 f) mark ≡ true
+header-marked f e = split (bytesEq (take 8 f) mark) (λ h. h) (λ h. absurd (omega (arith, end-is f, after-most 7 f (markAt f 0 .pos), mark-wrong f h)))
+
+pub header-read : (f : List ℕ) → readHeader f .end ≡ 36 → readHeader f ≡ headerOf f
+header-read f e = header-there f (header-long f e) (header-marked f e)
+
+-- ---- the file judged
+
+pub record ValidFile (f : List ℕ) : Type 0 where
+  pub long : 36 ≤ length f
+  pub marked : bytesEq (take 8 f) mark ≡ true
+  pub version-0 : versionOf f ≡ 0
+  pub short : materialLengthOf f ≤ 444
+  pub whole : length f ≡ 36 + materialLengthOf f
+
+pub valid-file : (f : List ℕ) → keyFileValid f ≡ true → ValidFile f
+unfolding keyFileValid
+valid-file f h =
+    let a = both _ _ h in
+    let b = both _ _ (a .1) in
+    let c = both _ _ (b .1) in
+    let d = both _ _ (c .1) in
+    record {
+      long = leb-true 36 (length f) (a .0);
+      marked = b .0;
+      version-0 = eqb-true (versionOf f) 0 (c .0);
+      short = leb-true (materialLengthOf f) 444 (d .0);
+      whole = eqb-true (length f) (36 + materialLengthOf f) (d .1);
+    }
+
+pub file-valid : (f : List ℕ) → ValidFile f → keyFileValid f ≡ true
+unfolding keyFileValid
+file-valid f v =
+    rw (le-leb 36 (length f) (v .long), v .marked, eq-eqb (versionOf f) 0 (v .version-0), le-leb (materialLengthOf f) 444 (v .short), eq-eqb (length f) (36 + materialLengthOf f) (v .whole))
+
+-- what is accepted, and what is refused
+pub parse-done : (f : List ℕ) → ValidFile f → parseKeyFile f ≡ record { status = ok; attributes = attributesOf f; «material_len» = materialLengthOf f }
+unfolding parseKeyFile
+parse-done f v = rw (file-valid f v)
+
+pub parse-refused : (f : List ℕ) → (ValidFile f → ⊥) → parseKeyFile f ≡ refusedFile
+unfolding parseKeyFile
+parse-refused f n = split (keyFileValid f) (λ h. absurd (n (valid-file f h))) (λ h. rw h)
+
+-- ---- the code's tests of a header that it has read, and of the material behind it
+
+material-there : (f : List ℕ) (n : ℕ) → length f ≡ 36 + n → bytesAt f 36 n ≡ record { status = ok; value = 0; pos = 36 + n }
+unfolding bytesAt takenAt
+material-there f n e = rw (has-bytes f 36 n (omega arith))
+
+material-end : (f : List ℕ) (p n : ℕ) → bytesAt f p n .status ≡ ok → bytesAt f p n .pos ≡ p + n
+unfolding bytesAt takenAt
+material-end f p n e = split (hasBytes f p n) (λ h. rw h) (λ h. absurd (omega (arith, rw h at e)))
+
+module _ (f : List ℕ) (h : Header) (e : h ≡ readHeader f) where
+  read : ValidFile f → h ≡ headerOf f
+  read v = e ∙ header-there f (v .long) (v .marked)
+
+  pub no-header : (h .end ≡ 36 → ⊥) → parseKeyFile f ≡ refusedFile
+  no-header n = parse-refused f (λ v. n (ap (λ (x : Header). x .end) (read v)))
+
+  pub other-version : (h .version ≡ 0 → ⊥) → parseKeyFile f ≡ refusedFile
+  other-version n = parse-refused f (λ v. n (ap (λ (x : Header). x .version) (read v) ∙ v .version-0))
+
+  pub more-material : 444 < h .«material_len» → parseKeyFile f ≡ refusedFile
+  more-material n = parse-refused f (λ v. let k = ap (λ (x : Header). x .«material_len») (read v) in omega (arith, v .short))
+
+  module _ (m : Field) (d : m ≡ bytesAt f (h .end) (h .«material_len»)) where
+    behind : ValidFile f → m ≡ record { status = ok; value = 0; pos = 36 + materialLengthOf f }
+    behind v = d ∙ ap (λ (x : Header). bytesAt f (x .end) (x .«material_len»)) (read v) ∙ material-there f (materialLengthOf f) (v .whole)
+
+    pub missing-bytes : (m .status ≡ ok → ⊥) → parseKeyFile f ≡ refusedFile
+    missing-bytes n = parse-refused f (λ v. n (ap (λ (x : Field). x .status) (behind v)))
+
+    pub trailing-bytes : (m .pos ≡ length f → ⊥) → parseKeyFile f ≡ refusedFile
+    trailing-bytes n = parse-refused f (λ v. n (ap (λ (x : Field). x .pos) (behind v) ∙ sym (v .whole)))
+
+    pub accepted : h .end ≡ 36 → h .version ≡ 0 → h .«material_len» ≤ 444 → m .status ≡ ok → m .pos ≡ length f
+        → record { status = ok; attributes = h .attributes; «material_len» = h .«material_len» } ≡ parseKeyFile f
+    accepted p v n s l =
+        let q : readHeader f .end ≡ 36 = sym (ap (λ (x : Header). x .end) e) ∙ p in
+        let r : h ≡ headerOf f = e ∙ header-read f q in
+        let a = ap (λ (x : Header). x .version) r in
+        let b = ap (λ (x : Header). x .«material_len») r in
+        let t = material-end f (h .end) (h .«material_len») (sym (ap (λ (x : Field). x .status) d) ∙ s) in
+        let z = ap (λ (x : Field). x .pos) d in
+        let g : ValidFile f = record {
+          long = header-long f q;
+          marked = header-marked f q;
+          version-0 = sym a ∙ v;
+          short = omega arith;
+          whole = omega arith;
+        } in
+        ap (λ (x : Header). record { status = ok; attributes = x .attributes; «material_len» = x .«material_len» }) r ∙ sym (parse-done f g)
+
+pub past-end : (f : List ℕ) (p : ℕ) → length f < p → parseKeyFile (drop p f) ≡ refusedFile
+past-end f p h = parse-refused (drop p f) (λ v. omega (arith, v .long, length-drop p f))

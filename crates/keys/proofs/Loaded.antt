@@ -1,0 +1,67 @@
+-- What a load's tests say. Assumes nothing.
+use mathlib.Core.Path.{_≡_, refl, sym, ap, _∙_}
+use mathlib.Core.Logic.{_≢_}
+use mathlib.Core.Bool.{true, false}
+use mathlib.Core.List.{List, _++_}
+use Prim.Native.Nat.{ℕ, _+_, _-_, _≤_, _<_}
+use native.Mathlib.Omega.{arith}
+use borrow.Author.Tests.{le-leb, lt-leb, ne-eqb}
+use lib.ListN.{length, take, drop, length-take}
+use Rattle.spec.specs.Status.{ok, isOk, refuseIf, onOk}
+use Rattle.spec.specs.Bytes.{zeros}
+use Rattle.spec.specs.Name.{keyName}
+use Rattle.spec.specs.Area.{kvFormat, lookup}
+use Rattle.spec.specs.Binding.{recordOf, readCount}
+use Rattle.spec.specs.Calls.{Got, getStatus, storeGet}
+use Rattle.spec.proofs.Split.{split, clash}
+use Rattle.keys.specs.KeyFile.{keyFileValid, parseKeyFile}
+use Rattle.keys.specs.Calls.{keyRecord, fileOf, loadStatus}
+
+module _ (kv rbp key : List ℕ) (id : ℕ) (buf : List ℕ) where
+  pub short-buffer : length buf < 480 → 1 ≡ loadStatus kv rbp key id buf
+  unfolding loadStatus refuseIf
+  short-buffer h = rw (lt-leb 480 (length buf) h)
+
+  module _ (l : 480 ≤ length buf) (g : Got) (e : g ≡ keyRecord kv rbp key id) where
+    pub not-got : g .status ≢ ok → g .status ≡ loadStatus kv rbp key id buf
+    unfolding loadStatus refuseIf
+    not-got n = rw (le-leb 480 (length buf) l, sym e, ne-eqb (g .status) ok n)
+
+    pub not-a-file : g .status ≡ ok → keyFileValid (fileOf g) ≡ false → 13 ≡ loadStatus kv rbp key id buf
+    unfolding loadStatus refuseIf
+    not-a-file s v = rw (le-leb 480 (length buf) l, sym e, s, v)
+
+    pub loads : g .status ≡ ok → keyFileValid (fileOf g) ≡ true → loadStatus kv rbp key id buf ≡ ok
+    unfolding loadStatus refuseIf
+    loads s v = rw (le-leb 480 (length buf) l, sym e, s, v)
+
+count-within : (kv rbp key name : List ℕ) (offset : ℕ) (output : List ℕ) → storeGet kv rbp key name offset output .count ≤ length output
+unfolding storeGet onOk readCount
+count-within kv rbp key name offset output = split (isOk (getStatus kv rbp key name offset)) (λ e. rw e (omega arith)) (λ e. rw e (omega arith))
+
+pub count-fits : (kv rbp key : List ℕ) (id : ℕ) (g : Got) → g ≡ keyRecord kv rbp key id → g .count ≤ 480
+unfolding keyRecord
+count-fits kv rbp key id g e = omega (arith, ap (λ (x : Got). x .count) e, count-within kv rbp key (keyName id) 0 (zeros 480))
+
+-- the parser's verdict
+pub file-valid : (f : List ℕ) → parseKeyFile f .status ≡ ok → keyFileValid f ≡ true
+unfolding parseKeyFile
+file-valid f h = split (keyFileValid f) (λ e. e) (λ e. absurd (omega (arith, rw e at h)))
+
+pub file-invalid : (f : List ℕ) → parseKeyFile f .status ≢ ok → keyFileValid f ≡ false
+unfolding parseKeyFile
+file-invalid f h = split (keyFileValid f) (λ e. absurd (h (rw e))) (λ e. e)
+
+-- the file's part of the array that it was read to
+pub part : (n : ℕ) (l : List ℕ) → take (n - 0) (drop 0 l) ≡ take n l
+part n l = let e : n - 0 ≡ n = omega arith in rw e
+
+pub part-length : (n : ℕ) (l : List ℕ) → n ≤ length l → n ≡ length (take n l)
+part-length n l h = rw length-take (omega arith)
+
+pub part-most : (n : ℕ) (l : List ℕ) → length (take (n - 0) (drop 0 l)) ≤ n
+part-most n l = rw (part n l, length-take) (omega arith)
+
+-- a paste at the front
+pub in-front : (src file d out : List ℕ) → out ≡ take 0 d ++ (src ++ drop (0 + length src) d) → src ≡ file → out ≡ file ++ drop (length file) d
+in-front src file d out e h = let z : 0 + length src ≡ length file = omega (arith, ap (λ (l : List ℕ). length l) h) in e ∙ rw (z, h)

@@ -1,0 +1,38 @@
+-- `keys::fields::field_at`: one test, and the number where it passes.
+use mathlib.Core.Path.{_∙_}
+use borrow.Author.Needs.{needs}
+use Rattle.keys.specs.Reader.{takenAt, fieldAt}
+use Rattle.store.proofs.Tests.{is-false, is-true}
+use Rattle.keys.proofs.Taken.{has-end}
+use Rattle.keys.proofs.fields.field_at.Statement.{statement}
+use Rattle.keys.proofs.fields.field_at.Tie as tie
+
+has-bytes-requires : tie.Need-has-bytes-requires
+has-bytes-requires c κs = search needs
+
+refused-requires : tie.Need-refused-requires
+refused-requires c κs = search needs
+
+returns : tie.Need-returns
+unfolding fieldAt takenAt
+returns c = c .refused .ensures ∙ rw (is-false (c .before .before .has-bytes .ensures) (c .before .if1 .taken))
+
+u32-at-requires : tie.Need-u32-at-requires
+u32-at-requires c κs =
+    let a = c .before .before .before .args in
+    has-end (a .file .now) (a .pos) 4 (is-true (c .before .has-bytes .ensures) (c .if1 .left))
+
+add-t6 : tie.Need-add-t6
+add-t6 c =
+    let a = c .before .before .before .before .args in
+    let h = has-end (a .file .now) (a .pos) 4 (is-true (c .before .before .has-bytes .ensures) (c .before .if1 .left)) in
+    search needs
+
+returns-2 : tie.Need-returns-2
+unfolding fieldAt takenAt
+returns-2 c = rw (is-true (c .before .before .has-bytes .ensures) (c .before .if1 .left), c .u32-at .ensures)
+
+pub field-at-spec : {M : Type 1} → statement M
+field-at-spec =
+    tie.close
+    (tie.spec has-bytes-requires refused-requires returns u32-at-requires add-t6 returns-2)

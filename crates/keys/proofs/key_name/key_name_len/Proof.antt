@@ -1,0 +1,19 @@
+-- `keys::key_name::key_name_len`: the two tests of an identifier.
+use borrow.Author.Tests.{le-leb, lt-leb}
+use mathlib.Core.Path.{sym}
+use borrow.Author.Needs.{needs}
+use Rattle.keys.proofs.Digits.{no-key, high-key, key-length}
+use Rattle.keys.proofs.key_name.key_name_len.Statement.{statement}
+use Rattle.keys.proofs.key_name.key_name_len.Tie as tie
+
+returns : tie.Need-returns
+returns c = sym (no-key (c .before .args .key-id) (c .if1 .taken))
+
+returns-2 : tie.Need-returns-2
+returns-2 c = sym (high-key (c .before .before .args .key-id) (c .if2 .taken))
+
+returns-3 : tie.Need-returns-3
+returns-3 c = sym (key-length (c .before .before .args .key-id) (c .before .if1 .left) (c .if2 .left))
+
+pub key-name-len-spec : {M : Type 1} → statement M
+key-name-len-spec = tie.close (tie.spec returns returns-2 returns-3)

@@ -1,0 +1,3 @@
+pub mod KeyFile
+pub mod Reader
+pub mod Calls

@@ -1,0 +1,59 @@
+// Writing a key file.
+use crate::key_file;
+use crate::key_file::KeyAttributes;
+use records::numbers;
+use slots::buffers;
+use store::answers::Got;
+use store::status;
+ghost use mathlib.Core.Path.{_≡_};
+ghost use mathlib.Core.List.{_++_};
+ghost use Prim.Native.Nat.{_+_, _≤_};
+ghost use lib.ListN.{length, drop};
+ghost use Rattle.store.specs.Answers.{got};
+ghost use Rattle.keys.specs.KeyFile.{keyFileHeader, formatKeyFile};
+ghost use Rattle.keys.specs.Calls.{writeKeyFile};
+
+fn put_header(attributes: KeyAttributes, material_len: u32, dst: &mut [u8])
+    requires { ⌜ 36 ≤ length (now dst) ⌝ }
+    ensures { λ _. ⌜ now (dst .exit) ≡ keyFileHeader attributes «material_len» ++ drop 36 (now (dst .entry)) ⌝ }
+{
+    buffers::paste(dst, 0, &key_file::KEY_FILE_MARK);
+    numbers::put_u32(key_file::KEY_FILE_VERSION, dst, 8);
+    numbers::put_u32(attributes.lifetime, dst, 12);
+    numbers::put_u32(attributes.key_type, dst, 16);
+    numbers::put_u32(attributes.usage, dst, 20);
+    numbers::put_u32(attributes.alg, dst, 24);
+    numbers::put_u32(attributes.enrollment_alg, dst, 28);
+    numbers::put_u32(material_len, dst, 32);
+}
+
+// A file at the front of a buffer.
+pub(crate) fn put_key_file(attributes: KeyAttributes, material: &[u8], dst: &mut [u8])
+    requires { ⌜ (36 + length (now material) ≤ length (now dst)) × (length (now material) ≤ 444) ⌝ }
+    ensures { λ _. ⌜ now (dst .exit) ≡ formatKeyFile attributes (now (material .entry)) ++ drop (36 + length (now (material .entry))) (now (dst .entry)) ⌝ }
+{
+    put_header(attributes, material.len() as u32, dst);
+    buffers::paste(dst, 36, material);
+}
+
+pub fn format_key_file(attributes: KeyAttributes, material: &[u8], key_buf: &mut [u8]) -> Got
+    ensures { λ r. ⌜ got r (now («key_buf» .exit)) ≡ writeKeyFile attributes (now (material .entry)) (now («key_buf» .entry)) ⌝ }
+{
+    if key_buf.len() < 480 {
+        return Got {
+            status: status::ERR_LENGTH,
+            count: 0,
+        };
+    }
+    if 444 < material.len() {
+        return Got {
+            status: status::ERR_INVALID_KEY_FILE,
+            count: 0,
+        };
+    }
+    put_key_file(attributes, material, key_buf);
+    Got {
+        status: status::OK,
+        count: 36 + material.len(),
+    }
+}

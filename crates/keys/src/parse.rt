@@ -1,0 +1,99 @@
+// A key file's fields, taken one after the other, and the file judged.
+use crate::fields;
+use crate::key_file;
+use crate::key_file::KeyAttributes;
+use crate::key_file::KeyFile;
+use store::status;
+ghost use mathlib.Core.Path.{_≡_};
+ghost use lib.ListN.{drop};
+ghost use Rattle.keys.specs.KeyFile.{refusedFile, parseKeyFile};
+ghost use Rattle.keys.specs.Reader.{readHeader};
+
+// What the header says, and the place behind it. A field that is refused leaves the place, so that it cannot be 36.
+pub struct Header {
+    pub version: u32,
+    pub attributes: KeyAttributes,
+    pub material_len: u32,
+    pub end: usize,
+}
+
+fn read_header(file: &[u8]) -> Header
+    ensures { λ r. ⌜ r ≡ readHeader (now (file .entry)) ⌝ }
+{
+    let mark = fields::mark_at(file, 0);
+    let version = fields::field_at(file, mark.pos);
+    let lifetime = fields::field_at(file, version.pos);
+    let key_type = fields::field_at(file, lifetime.pos);
+    let usage = fields::field_at(file, key_type.pos);
+    let alg = fields::field_at(file, usage.pos);
+    let enrollment_alg = fields::field_at(file, alg.pos);
+    let material_len = fields::field_at(file, enrollment_alg.pos);
+    Header {
+        version: version.value,
+        attributes: KeyAttributes {
+            lifetime: lifetime.value,
+            key_type: key_type.value,
+            usage: usage.value,
+            alg: alg.value,
+            enrollment_alg: enrollment_alg.value,
+        },
+        material_len: material_len.value,
+        end: material_len.pos,
+    }
+}
+
+fn refused() -> KeyFile
+    ensures { λ r. ⌜ r ≡ refusedFile ⌝ }
+{
+    KeyFile {
+        status: status::ERR_INVALID_KEY_FILE,
+        attributes: KeyAttributes {
+            lifetime: 0,
+            key_type: 0,
+            usage: 0,
+            alg: 0,
+            enrollment_alg: 0,
+        },
+        material_len: 0,
+    }
+}
+
+fn parse_whole(file: &[u8]) -> KeyFile
+    ensures { λ r. ⌜ r ≡ parseKeyFile (now (file .entry)) ⌝ }
+{
+    let header = read_header(file);
+    if header.end != 36 {
+        return refused();
+    }
+    if header.version != key_file::KEY_FILE_VERSION {
+        return refused();
+    }
+    // Before the material is taken, so that no length field can wrap.
+    if 444 < header.material_len {
+        return refused();
+    }
+    let material = fields::bytes_at(file, header.end, header.material_len as usize);
+    if material.status != status::OK {
+        return refused();
+    }
+    if material.pos != file.len() {
+        return refused();
+    }
+    let attributes = header.attributes;
+    KeyFile {
+        status: status::OK,
+        attributes,
+        material_len: header.material_len,
+    }
+}
+
+// The file that begins at a place.
+pub fn parse_from(file: &[u8], pos: usize) -> KeyFile
+    ensures { λ r. ⌜ r ≡ parseKeyFile (drop pos (now (file .entry))) ⌝ }
+{
+    if file.len() < pos {
+        return refused();
+    }
+    let end = file.len();
+    parse_whole(&file[pos..end])
+}
