@@ -1,18 +1,19 @@
 -- The header read one field after the other is the header by offsets, where there is one; where there is none, the reader does not come to place 36.
 -- Assumes nothing.
 use mathlib.Core.Path.{_≡_, refl, sym, ap, _∙_}
-use mathlib.Core.Bool.{Bool, true, false, cond, _&&_}
+use mathlib.Core.Bool.{Bool, true, false, _&&_}
 use mathlib.Core.List.{List}
 use Prim.Native.Nat.{ℕ, zero, suc, _+_, _*_, _≤_, _<_}
 use native.Mathlib.Omega.{arith}
-use borrow.Author.Tests.{leb-true, leb-false, le-leb, eqb-true, eq-eqb, ne-eqb, lt-leb}
-use lib.Dec.{eqb, leb}
+use borrow.Author.Tests.{leb-true, le-leb, eqb-true, eq-eqb}
 use lib.ListN.{length, take, drop, length-drop}
 use Rattle.spec.specs.Bytes.{bytesEq, u32At}
 use Rattle.spec.specs.Status.{ok}
-use Rattle.spec.proofs.Split.{split, clash, both}
+use Rattle.spec.proofs.Split.{split, both}
+use Rattle.spec.proofs.Bytes.{bytesEq-eq, eq-bytesEq}
 use Rattle.keys.specs.KeyFile.{mark, attributesOf, versionOf, materialLengthOf, keyFileValid, refusedFile, parseKeyFile}
 use Rattle.keys.specs.Reader.{hasBytes, takenAt, markAt, fieldAt, bytesAt, readHeader}
+use Rattle.keys.specs.Laws.{WellFormed}
 use Rattle.keys.specs.declared.fields.Field.{Field}
 use Rattle.keys.specs.declared.parse.Header.{Header}
 use Rattle.keys.proofs.Taken.{has-end, has-bytes}
@@ -48,15 +49,15 @@ mark-within : (f : List ℕ) → markAt f 0 .pos ≤ length f
 unfolding markAt
 mark-within f = taken-within f (hasBytes f 0 8 && bytesEq (take 8 f) mark) 0 8 0 (λ e. both (hasBytes f 0 8) (bytesEq (take 8 f) mark) e .0) (omega arith)
 
-mark-there : (f : List ℕ) → 8 ≤ length f → bytesEq (take 8 f) mark ≡ true → markAt f 0 ≡ record { status = ok; value = 0; pos = 8 }
+mark-there : (f : List ℕ) → 8 ≤ length f → take 8 f ≡ mark → markAt f 0 ≡ record { status = ok; value = 0; pos = 8 }
 unfolding markAt takenAt
-mark-there f h e = rw (has-bytes f 0 8 h, e)
+mark-there f h e = rw (has-bytes f 0 8 h, eq-bytesEq (take 8 f) mark e)
 
 mark-wrong : (f : List ℕ) → bytesEq (take 8 f) mark ≡ false → markAt f 0 .pos ≡ 0
 unfolding markAt takenAt
 mark-wrong f e = split (hasBytes f 0 8) (λ h. rw (h, e)) (λ h. rw h)
 
-pub header-there : (f : List ℕ) → 36 ≤ length f → bytesEq (take 8 f) mark ≡ true → readHeader f ≡ headerOf f
+pub header-there : (f : List ℕ) → 36 ≤ length f → take 8 f ≡ mark → readHeader f ≡ headerOf f
 unfolding readHeader
 header-there f h e =
     rw (
@@ -91,49 +92,42 @@ end-is f = refl
 pub header-long : (f : List ℕ) → readHeader f .end ≡ 36 → 36 ≤ length f
 header-long f e = omega (arith, end-is f, after-within 7 f (markAt f 0 .pos) (mark-within f))
 
-pub header-marked : (f : List ℕ) → readHeader f .end ≡ 36 → bytesEq (take 8 f) mark ≡ true
-header-marked f e = split (bytesEq (take 8 f) mark) (λ h. h) (λ h. absurd (omega (arith, end-is f, after-most 7 f (markAt f 0 .pos), mark-wrong f h)))
+pub header-marked : (f : List ℕ) → readHeader f .end ≡ 36 → take 8 f ≡ mark
+header-marked f e = split (bytesEq (take 8 f) mark) (λ h. bytesEq-eq (take 8 f) mark h) (λ h. absurd (omega (arith, end-is f, after-most 7 f (markAt f 0 .pos), mark-wrong f h)))
 
 pub header-read : (f : List ℕ) → readHeader f .end ≡ 36 → readHeader f ≡ headerOf f
 header-read f e = header-there f (header-long f e) (header-marked f e)
 
 -- ---- the file judged
 
-pub record ValidFile (f : List ℕ) : Type 0 where
-  pub long : 36 ≤ length f
-  pub marked : bytesEq (take 8 f) mark ≡ true
-  pub version-0 : versionOf f ≡ 0
-  pub short : materialLengthOf f ≤ 444
-  pub whole : length f ≡ 36 + materialLengthOf f
-
-pub valid-file : (f : List ℕ) → keyFileValid f ≡ true → ValidFile f
+pub well-formed : (f : List ℕ) → keyFileValid f ≡ true → WellFormed f
 unfolding keyFileValid
-valid-file f h =
+well-formed f h =
     let a = both _ _ h in
     let b = both _ _ (a .1) in
     let c = both _ _ (b .1) in
     let d = both _ _ (c .1) in
     record {
-      long = leb-true 36 (length f) (a .0);
-      marked = b .0;
+      header = leb-true 36 (length f) (a .0);
+      marked = bytesEq-eq (take 8 f) mark (b .0);
       version-0 = eqb-true (versionOf f) 0 (c .0);
-      short = leb-true (materialLengthOf f) 444 (d .0);
+      material-short = leb-true (materialLengthOf f) 444 (d .0);
       whole = eqb-true (length f) (36 + materialLengthOf f) (d .1);
     }
 
-pub file-valid : (f : List ℕ) → ValidFile f → keyFileValid f ≡ true
+pub is-valid : (f : List ℕ) → WellFormed f → keyFileValid f ≡ true
 unfolding keyFileValid
-file-valid f v =
-    rw (le-leb 36 (length f) (v .long), v .marked, eq-eqb (versionOf f) 0 (v .version-0), le-leb (materialLengthOf f) 444 (v .short), eq-eqb (length f) (36 + materialLengthOf f) (v .whole))
+is-valid f v =
+    rw (le-leb 36 (length f) (v .header), eq-bytesEq (take 8 f) mark (v .marked), eq-eqb (versionOf f) 0 (v .version-0), le-leb (materialLengthOf f) 444 (v .material-short), eq-eqb (length f) (36 + materialLengthOf f) (v .whole))
 
 -- what is accepted, and what is refused
-pub parse-done : (f : List ℕ) → ValidFile f → parseKeyFile f ≡ record { status = ok; attributes = attributesOf f; «material_len» = materialLengthOf f }
+pub parse-done : (f : List ℕ) → WellFormed f → parseKeyFile f ≡ record { status = ok; attributes = attributesOf f; «material_len» = materialLengthOf f }
 unfolding parseKeyFile
-parse-done f v = rw (file-valid f v)
+parse-done f v = rw (is-valid f v)
 
-pub parse-refused : (f : List ℕ) → (ValidFile f → ⊥) → parseKeyFile f ≡ refusedFile
+pub parse-refused : (f : List ℕ) → (WellFormed f → ⊥) → parseKeyFile f ≡ refusedFile
 unfolding parseKeyFile
-parse-refused f n = split (keyFileValid f) (λ h. absurd (n (valid-file f h))) (λ h. rw h)
+parse-refused f n = split (keyFileValid f) (λ h. absurd (n (well-formed f h))) (λ h. rw h)
 
 -- ---- the code's tests of a header that it has read, and of the material behind it
 
@@ -146,8 +140,8 @@ unfolding bytesAt takenAt
 material-end f p n e = split (hasBytes f p n) (λ h. rw h) (λ h. absurd (omega (arith, rw h at e)))
 
 module _ (f : List ℕ) (h : Header) (e : h ≡ readHeader f) where
-  read : ValidFile f → h ≡ headerOf f
-  read v = e ∙ header-there f (v .long) (v .marked)
+  read : WellFormed f → h ≡ headerOf f
+  read v = e ∙ header-there f (v .header) (v .marked)
 
   pub no-header : (h .end ≡ 36 → ⊥) → parseKeyFile f ≡ refusedFile
   no-header n = parse-refused f (λ v. n (ap (λ (x : Header). x .end) (read v)))
@@ -156,10 +150,10 @@ module _ (f : List ℕ) (h : Header) (e : h ≡ readHeader f) where
   other-version n = parse-refused f (λ v. n (ap (λ (x : Header). x .version) (read v) ∙ v .version-0))
 
   pub more-material : 444 < h .«material_len» → parseKeyFile f ≡ refusedFile
-  more-material n = parse-refused f (λ v. let k = ap (λ (x : Header). x .«material_len») (read v) in omega (arith, v .short))
+  more-material n = parse-refused f (λ v. let k = ap (λ (x : Header). x .«material_len») (read v) in omega (arith, v .material-short))
 
   module _ (m : Field) (d : m ≡ bytesAt f (h .end) (h .«material_len»)) where
-    behind : ValidFile f → m ≡ record { status = ok; value = 0; pos = 36 + materialLengthOf f }
+    behind : WellFormed f → m ≡ record { status = ok; value = 0; pos = 36 + materialLengthOf f }
     behind v = d ∙ ap (λ (x : Header). bytesAt f (x .end) (x .«material_len»)) (read v) ∙ material-there f (materialLengthOf f) (v .whole)
 
     pub missing-bytes : (m .status ≡ ok → ⊥) → parseKeyFile f ≡ refusedFile
@@ -177,14 +171,14 @@ module _ (f : List ℕ) (h : Header) (e : h ≡ readHeader f) where
         let b = ap (λ (x : Header). x .«material_len») r in
         let t = material-end f (h .end) (h .«material_len») (sym (ap (λ (x : Field). x .status) d) ∙ s) in
         let z = ap (λ (x : Field). x .pos) d in
-        let g : ValidFile f = record {
-          long = header-long f q;
+        let g : WellFormed f = record {
+          header = header-long f q;
           marked = header-marked f q;
           version-0 = sym a ∙ v;
-          short = omega arith;
+          material-short = omega arith;
           whole = omega arith;
         } in
         ap (λ (x : Header). record { status = ok; attributes = x .attributes; «material_len» = x .«material_len» }) r ∙ sym (parse-done f g)
 
 pub past-end : (f : List ℕ) (p : ℕ) → length f < p → parseKeyFile (drop p f) ≡ refusedFile
-past-end f p h = parse-refused (drop p f) (λ v. omega (arith, v .long, length-drop p f))
+past-end f p h = parse-refused (drop p f) (λ v. omega (arith, v .header, length-drop p f))

@@ -1,3 +1,4 @@
 pub mod KeyFile
 pub mod Reader
 pub mod Calls
+pub mod Laws

@@ -21,7 +21,7 @@ use Rattle.spec.proofs.Slots.{held, held-at, find-any, Distinct, to-dis
 use Rattle.spec.proofs.Chunks.{length-chunks, chunk-at}
 use Rattle.spec.proofs.First.{any-first, any-at, first-passes}
 
-some-inj : {A : Type 0} {a b : A} → some a ≡ some b → a ≡ b
+pub some-inj : {A : Type 0} {a b : A} → some a ≡ some b → a ≡ b
 some-inj h = cc
 
 module _ {S : Type 0} (d : S) where

@@ -53,7 +53,7 @@ module _ {A : Type 0} {rest : List Refusal} where
   test true n next p q f = holds (p refl)
   test false n next p q f = fails (q refl) f
 
-  unless : (t : Bool) (n next : ℕ) → (t ≡ false → A) → (t ≡ true → ¬ A) → FirstOf rest next → FirstOf ((n when A) ∷ rest) (refuseIf (not t) n next)
+  pub unless : (t : Bool) (n next : ℕ) → (t ≡ false → A) → (t ≡ true → ¬ A) → FirstOf rest next → FirstOf ((n when A) ∷ rest) (refuseIf (not t) n next)
   unfolding refuseIf
   unless true n next p q f = fails (q refl) f
   unless false n next p q f = holds (p refl)

@@ -110,11 +110,11 @@ sized-shape = record { kv = λ area. (kv-sized area, sized-kv area); rbp = λ ar
 -- ---- bytes of a list
 
 -- k elements from index j on
-abbrev front : ℕ → ℕ → List ℕ → List ℕ
+abbrev pub front : ℕ → ℕ → List ℕ → List ℕ
 front zero j l = []
 front (suc k) j l = getD l j 0 ∷ front k (suc j) l
 
-front-drop : (k j : ℕ) (l : List ℕ) → j + k ≤ length l → drop j l ≡ front k j l ++ drop (j + k) l
+pub front-drop : (k j : ℕ) (l : List ℕ) → j + k ≤ length l → drop j l ≡ front k j l ++ drop (j + k) l
 front-drop zero j l h = let e : j + 0 ≡ j = omega arith in rw e
 front-drop (suc k) j l h =
     let e : suc j + k ≡ j + suc k = omega arith in
@@ -129,7 +129,7 @@ low-byte k b v h =
 two-bytes : (a b : ℕ) → a < 256 → b < 256 → leBytes 2 (leValue (a ∷ b ∷ [])) ≡ a ∷ b ∷ []
 two-bytes a b p q = low-byte 1 a (leValue (b ∷ [])) p ∙ ap (λ (t : List ℕ). a ∷ t) (low-byte 0 b 0 q)
 
-four-bytes : (a b c d : ℕ) → a < 256 → b < 256 → c < 256 → d < 256 → leBytes 4 (leValue (a ∷ b ∷ c ∷ d ∷ [])) ≡ a ∷ b ∷ c ∷ d ∷ []
+pub four-bytes : (a b c d : ℕ) → a < 256 → b < 256 → c < 256 → d < 256 → leBytes 4 (leValue (a ∷ b ∷ c ∷ d ∷ [])) ≡ a ∷ b ∷ c ∷ d ∷ []
 four-bytes a b c d p q r s =
     low-byte 3 a (leValue (b ∷ c ∷ d ∷ [])) p
     ∙ ap (λ (t : List ℕ). a ∷ t) (low-byte 2 b (leValue (c ∷ d ∷ [])) q ∙ ap (λ (t : List ℕ). b ∷ t) (two-bytes c d r s))
