@@ -1,24 +1,23 @@
 -- The calls on key files: what they answer, in which order they refuse, and that a saved key is loaded. Assumes nothing.
 use mathlib.Core.Path.{_≡_, refl, sym, ap, subst, _∙_}
 use mathlib.Core.Logic.{_≢_}
-use mathlib.Core.Bool.{Bool, true, false, not, _&&_}
+use mathlib.Core.Bool.{Bool, true, false, not}
 use mathlib.Core.List.{List, [], _∷_, _++_}
-use mathlib.Core.Option.{some}
 use Prim.Native.Nat.{ℕ, _+_, _-_, _≤_, _<_, min}
 use native.Mathlib.Omega.{arith}
 use borrow.Author.Tests.{leb-true, leb-false, le-leb, eq-eqb, eqb-true, eqb-false, ne-eqb}
 use lib.Dec.{eqb, leb}
-use lib.ListN.{length, take, drop}
+use lib.ListN.{length, drop}
 use lib.Seq.{take-all, take-at, take-append-seam}
 use Rattle.spec.specs.Bytes.{zeros}
-use Rattle.spec.specs.Status.{ok, isListed, isOk, refuseIf, onOk}
+use Rattle.spec.specs.Status.{ok, isListed, isOk, refuseIf}
 use Rattle.spec.specs.Name.{keyName}
 use Rattle.spec.specs.Record.{revision1, dataSizeOf, plaintext, crypt, encKey}
 use Rattle.spec.specs.Calls.{Got, Written, bindingOf, storeSet, storeGet}
 use Rattle.spec.specs.Demands.{WrittenWell, GotWell, Readable, opened}
 use Rattle.spec.specs.Refusals.{Refusal, _when_, FirstOf, holds, fails, done, Held, areaLengths, keyLength, areaDamage, getRefusals}
 use Rattle.spec.proofs.Split.{split, clash, both, not-true-is, not-false-is}
-use Rattle.spec.proofs.Status.{passed, refuse-listed, on-refused, on-ok}
+use Rattle.spec.proofs.Status.{passed, refuse-listed, on-refused}
 use Rattle.spec.proofs.Intact.{some-inj}
 use Rattle.spec.proofs.Demand1.{demand1-holds}
 use Rattle.spec.proofs.Get.{get-exact}
@@ -28,8 +27,7 @@ use Rattle.records.proofs.Valid.{valid-sized}
 use Rattle.records.proofs.Sealed.{plaintext-length}
 use Rattle.keys.specs.KeyFile.{formatKeyFile, keyFileValid}
 use Rattle.keys.specs.Calls.{keyFileGot, formatStatus, writeKeyFile, whenFits, saveKey, keyRecord, fileOf, loadStatus, loadKey}
-use Rattle.keys.specs.Laws.{Fits, WellFormed, KeyCallsWell, KeyRefusals, FormatGives, LoadReady, loaded, LoadExact, SaveLoads}
-use Rattle.keys.specs.declared.key_file.KeyAttributes.{KeyAttributes}
+use Rattle.keys.specs.Laws.{WellFormed, KeyCallsWell, KeyRefusals, FormatGives, LoadReady, loaded, LoadExact, SaveLoads}
 use Rattle.keys.proofs.Header.{well-formed, is-valid}
 use Rattle.keys.proofs.Written.{file-length, got-done, writes}
 use Rattle.keys.proofs.FileLaws.{written-formed}
@@ -221,7 +219,7 @@ save-loads-one kv rbp key id f buf w h e =
 
 pub save-loads : SaveLoads
 unfolding saveKey whenFits
-save-loads kv rbp key id a m flags iv buf fits h k =
+save-loads kv rbp key id a m flags iv buf h k =
     let t : leb (length m) 444 ≡ true = saved-fits (leb (length m) 444) kv rbp _ h in
     let f = formatKeyFile a m in
     let n = file-length a m in

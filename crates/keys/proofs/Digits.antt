@@ -1,5 +1,5 @@
 -- The digits of a key's name. Assumes nothing.
-use mathlib.Core.Path.{_≡_, refl, sym, ap, _∙_}
+use mathlib.Core.Path.{_≡_, sym, ap, _∙_}
 use mathlib.Core.List.{List, [], _∷_, _++_, append-assoc}
 use mathlib.Core.Bool.{_&&_}
 use Prim.Native.Nat.{ℕ, suc, _-_, _/_, _%_, _≤_, _<_}

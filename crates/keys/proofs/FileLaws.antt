@@ -1,16 +1,16 @@
 -- A file and what it says determine each other. Assumes nothing.
 use mathlib.Core.Path.{_≡_, refl, sym, ap, _∙_}
 use mathlib.Core.List.{List, [], _∷_, _++_}
-use Prim.Native.Nat.{ℕ, _+_, _-_, _^_, _≤_, _<_}
+use Prim.Native.Nat.{ℕ, _+_, _≤_}
 use native.Mathlib.Omega.{arith}
 use lib.ListN.{length, getD, take, drop, length-drop}
-use lib.Seq.{take-at, drop-append-seam}
+use lib.Seq.{take-at}
 use Rattle.spec.specs.Bytes.{leBytes, u32At}
 use Rattle.spec.specs.Status.{ok}
 use Rattle.spec.specs.Shapes.{AreBytes}
 use Rattle.spec.proofs.Bytes.{le-value}
 use Rattle.spec.proofs.Shapes.{front, front-drop, four-bytes}
-use Rattle.keys.specs.KeyFile.{mark, keyFileHeader, formatKeyFile, versionOf, attributesOf, materialLengthOf, materialOf, keyFileValid, parseKeyFile}
+use Rattle.keys.specs.KeyFile.{mark, keyFileHeader, formatKeyFile, versionOf, attributesOf, materialLengthOf, materialOf, parseKeyFile}
 use Rattle.keys.specs.Laws.{Fits, WellFormed, ParseExact, FormatParses, ParsedIsWritten, ReaderExact}
 use Rattle.keys.specs.declared.key_file.KeyAttributes.{KeyAttributes}
 use Rattle.keys.specs.declared.key_file.KeyFile.{KeyFile}

@@ -1,5 +1,5 @@
 -- What a load's tests say. Assumes nothing.
-use mathlib.Core.Path.{_≡_, refl, sym, ap, _∙_}
+use mathlib.Core.Path.{_≡_, sym, ap, _∙_}
 use mathlib.Core.Logic.{_≢_}
 use mathlib.Core.Bool.{true, false}
 use mathlib.Core.List.{List, _++_}
@@ -10,10 +10,9 @@ use lib.ListN.{length, take, drop, length-take}
 use Rattle.spec.specs.Status.{ok, isOk, refuseIf, onOk}
 use Rattle.spec.specs.Bytes.{zeros}
 use Rattle.spec.specs.Name.{keyName}
-use Rattle.spec.specs.Area.{kvFormat, lookup}
-use Rattle.spec.specs.Binding.{recordOf, readCount}
+use Rattle.spec.specs.Binding.{readCount}
 use Rattle.spec.specs.Calls.{Got, getStatus, storeGet}
-use Rattle.spec.proofs.Split.{split, clash}
+use Rattle.spec.proofs.Split.{split}
 use Rattle.keys.specs.KeyFile.{keyFileValid, parseKeyFile}
 use Rattle.keys.specs.Calls.{keyRecord, fileOf, loadStatus}
 

@@ -1,6 +1,6 @@
 -- Laws of a field taken at a place. Assumes nothing.
-use mathlib.Core.Path.{_≡_, refl}
-use mathlib.Core.Bool.{Bool, true, false, _&&_}
+use mathlib.Core.Path.{_≡_}
+use mathlib.Core.Bool.{true, false}
 use mathlib.Core.List.{List}
 use Prim.Native.Nat.{ℕ, _+_, _-_, _≤_, _<_}
 use native.Mathlib.Omega.{arith}
@@ -10,7 +10,7 @@ use lib.ListN.{length, take, drop}
 use Rattle.spec.specs.Bytes.{bytesEq}
 use Rattle.spec.proofs.Split.{both}
 use Rattle.keys.specs.KeyFile.{mark}
-use Rattle.keys.specs.Reader.{hasBytes, refusedAt, takenAt}
+use Rattle.keys.specs.Reader.{hasBytes}
 
 pub has-none : (file : List ℕ) (pos n : ℕ) → length file < pos → hasBytes file pos n ≡ false
 unfolding hasBytes

@@ -117,7 +117,7 @@ pub record LoadExact : Type 0 where
 
 -- a key that was saved is loaded with the same device key
 abbrev pub SaveLoads : Type 0
-SaveLoads = (kv rbp key : List ℕ) (id : ℕ) (a : KeyAttributes) (material : List ℕ) (flags : ℕ) (iv buf : List ℕ) → Fits a
+SaveLoads = (kv rbp key : List ℕ) (id : ℕ) (a : KeyAttributes) (material : List ℕ) (flags : ℕ) (iv buf : List ℕ)
     → saveKey kv rbp key id a material flags iv .status ≡ ok → 480 ≤ length buf
     → loadKey (saveKey kv rbp key id a material flags iv .kv) (saveKey kv rbp key id a material flags iv .rbp) key id buf
     ≡ record { status = ok; count = 36 + length material; output = formatKeyFile a material ++ drop (36 + length material) buf }

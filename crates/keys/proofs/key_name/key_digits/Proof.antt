@@ -1,9 +1,9 @@
 -- `keys::key_name::key_digits`. The invariant: the digits still to come, then those in place, are the identifier's.
 use mathlib.Core.Path.{_≡_, refl, _∙_}
 use mathlib.Core.List.{_++_}
-use Prim.Native.Nat.{suc, _-_, _/_, _%_, _^_, _≤_, _<_}
+use Prim.Native.Nat.{suc, _-_, _^_, _≤_, _<_}
 use native.Mathlib.Omega.{arith}
-use lib.ListN.{length, length-set, drop, set}
+use lib.ListN.{length, length-set, drop}
 use borrow.Author.Needs.{needs}
 use Rattle.spec.specs.Name.{hexDigits}
 use Rattle.keys.proofs.Digits.{digit-step}

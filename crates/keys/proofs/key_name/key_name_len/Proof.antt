@@ -1,7 +1,5 @@
 -- `keys::key_name::key_name_len`: the two tests of an identifier.
-use borrow.Author.Tests.{le-leb, lt-leb}
 use mathlib.Core.Path.{sym}
-use borrow.Author.Needs.{needs}
 use Rattle.keys.proofs.Digits.{no-key, high-key, key-length}
 use Rattle.keys.proofs.key_name.key_name_len.Statement.{statement}
 use Rattle.keys.proofs.key_name.key_name_len.Tie as tie
