@@ -14,20 +14,21 @@ use Rattle.spec.specs.Status.{ok, isListed, isOk, refuseIf}
 use Rattle.spec.specs.Name.{keyName}
 use Rattle.spec.specs.Record.{revision1, dataSizeOf, plaintext, crypt, encKey}
 use Rattle.spec.specs.Calls.{Got, Written, bindingOf, storeSet, storeGet}
-use Rattle.spec.specs.Demands.{WrittenWell, GotWell, Readable, opened}
+use Rattle.spec.specs.Demands.{WrittenWell, GotWell, Readable, opened, Stores}
 use Rattle.spec.specs.Refusals.{Refusal, _when_, FirstOf, holds, fails, done, Held, areaLengths, keyLength, areaDamage, getRefusals}
 use Rattle.spec.proofs.Split.{split, clash, both, not-true-is, not-false-is}
 use Rattle.spec.proofs.Status.{passed, refuse-listed, on-refused}
 use Rattle.spec.proofs.Intact.{some-inj}
 use Rattle.spec.proofs.Demand1.{demand1-holds}
 use Rattle.spec.proofs.Get.{get-exact}
-use Rattle.spec.proofs.Set.{round-trip}
+use Rattle.spec.proofs.Set.{round-trip, set-stores}
 use Rattle.spec.proofs.Refusals.{nonzero, unless, refusals-ordered}
 use Rattle.records.proofs.Valid.{valid-sized}
 use Rattle.records.proofs.Sealed.{plaintext-length}
 use Rattle.keys.specs.KeyFile.{formatKeyFile, keyFileValid}
 use Rattle.keys.specs.Calls.{keyFileGot, formatStatus, writeKeyFile, whenFits, saveKey, keyRecord, fileOf, loadStatus, loadKey}
-use Rattle.keys.specs.Laws.{WellFormed, KeyCallsWell, KeyRefusals, FormatGives, LoadReady, loaded, LoadExact, SaveLoads}
+use Rattle.keys.specs.Laws.{WellFormed, KeyCallsWell, KeyRefusals, FormatGives, LoadReady, loaded, LoadExact, SaveExact, SaveLoads}
+use Rattle.keys.specs.declared.key_file.KeyAttributes.{KeyAttributes}
 use Rattle.keys.proofs.Header.{well-formed, is-valid}
 use Rattle.keys.proofs.Written.{file-length, got-done, writes}
 use Rattle.keys.proofs.FileLaws.{written-formed}
@@ -217,13 +218,28 @@ save-loads-one kv rbp key id f buf w h e =
     let s : loadStatus kv rbp key id buf ≡ ok = rw (le-leb 480 (length buf) h, p, ap (λ (g : Got). g .status) e, is-valid f w) in
     ap (λ (x : List ℕ). keyFileGot (loadStatus kv rbp key id buf) x buf) p ∙ sym (got-done (loadStatus kv rbp key id buf) (length f) f buf _ s refl refl)
 
-pub save-loads : SaveLoads
+save-is-set : (kv rbp key : List ℕ) (id : ℕ) (a : KeyAttributes) (m : List ℕ) (flags : ℕ) (iv : List ℕ) → length m ≤ 444
+    → saveKey kv rbp key id a m flags iv ≡ storeSet kv rbp key (keyName id) flags iv (formatKeyFile a m)
 unfolding saveKey whenFits
+save-is-set kv rbp key id a m flags iv h = rw (le-leb (length m) 444 h)
+
+done-fits : (kv rbp key : List ℕ) (id : ℕ) (a : KeyAttributes) (m : List ℕ) (flags : ℕ) (iv : List ℕ) → saveKey kv rbp key id a m flags iv .status ≡ ok → length m ≤ 444
+unfolding saveKey
+done-fits kv rbp key id a m flags iv h = leb-true (length m) 444 (saved-fits (leb (length m) 444) kv rbp _ h)
+
+pub save-exact : SaveExact
+save-exact = record {
+  is-set = save-is-set;
+  stores = λ kv rbp key id a m flags iv h.
+      let e = save-is-set kv rbp key id a m flags iv (done-fits kv rbp key id a m flags iv h) in
+      subst (Stores kv rbp key (keyName id) flags iv (formatKeyFile a m)) (sym e) (set-stores kv rbp key (keyName id) flags iv (formatKeyFile a m) (sym (ap (λ (w : Written). w .status) e) ∙ h));
+}
+
+pub save-loads : SaveLoads
 save-loads kv rbp key id a m flags iv buf h k =
-    let t : leb (length m) 444 ≡ true = saved-fits (leb (length m) 444) kv rbp _ h in
+    let l = done-fits kv rbp key id a m flags iv h in
     let f = formatKeyFile a m in
     let n = file-length a m in
-    let l = leb-true (length m) 444 t in
-    let o : storeSet kv rbp key (keyName id) flags iv f .status ≡ ok = rw t at h in
-    let g = round-trip kv rbp key (keyName id) flags iv f (zeros 480) o (omega arith) in
-    rw t (save-loads-one _ _ key id f buf (written-formed a m l) k (record-is _ _ key id f g) ∙ rw n)
+    let e = save-is-set kv rbp key id a m flags iv l in
+    let g = round-trip kv rbp key (keyName id) flags iv f (zeros 480) (sym (ap (λ (w : Written). w .status) e) ∙ h) (omega arith) in
+    rw e (save-loads-one _ _ key id f buf (written-formed a m l) k (record-is _ _ key id f g) ∙ rw n)

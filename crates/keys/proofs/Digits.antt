@@ -21,17 +21,22 @@ digit-step l k rest h =
     let e : drop k (set l k v) ≡ v ∷ drop (suc k) l = drop-cons (set l k v) k 0 n ∙ rw (getD-set-same l k v 0 h, drop-set-lt (suc k) l k v (omega arith)) in
     rw e (sym (append-assoc (hexDigits k (rest / 16)) (v ∷ []) (drop (suc k) l)))
 
-pub no-key : (id : ℕ) → id < 1 → length (keyName id) ≡ 0
-unfolding keyName
-no-key id h = rw (lt-leb 1 id h)
+-- ---- the name of an identifier, and of what is none
 
-pub high-key : (id : ℕ) → 0xfffeffff < id → length (keyName id) ≡ 0
+pub no-name : (id : ℕ) → id < 1 → keyName id ≡ []
 unfolding keyName
-high-key id h = rw (le-leb 1 id (omega arith), lt-leb id 0xfffeffff h)
+no-name id h = rw (lt-leb 1 id h)
+
+pub high-name : (id : ℕ) → 0xfffeffff < id → keyName id ≡ []
+unfolding keyName
+high-name id h = rw (le-leb 1 id (omega arith), lt-leb id 0xfffeffff h)
+
+pub name-digits : (id : ℕ) → 1 ≤ id → id ≤ 0xfffeffff → keyName id ≡ hexDigits 16 id
+unfolding keyName
+name-digits id h k = rw (le-leb 1 id h, le-leb id 0xfffeffff k)
 
 pub key-length : (id : ℕ) → 1 ≤ id → id ≤ 0xfffeffff → length (keyName id) ≡ 16
-unfolding keyName
-key-length id h k = rw (le-leb 1 id h, le-leb id 0xfffeffff k) (digits-length 16 id)
+key-length id h k = ap (λ (l : List ℕ). length l) (name-digits id h k) ∙ digits-length 16 id
 
 -- the digits that are the name, as the code cuts them
 pub name-fits : (id : ℕ) → length (keyName id) ≤ 16

@@ -11,7 +11,7 @@ use Rattle.spec.specs.Shapes.{AreBytes}
 use Rattle.spec.proofs.Bytes.{le-value}
 use Rattle.spec.proofs.Shapes.{front, front-drop, four-bytes}
 use Rattle.keys.specs.KeyFile.{mark, keyFileHeader, formatKeyFile, versionOf, attributesOf, materialLengthOf, materialOf, parseKeyFile}
-use Rattle.keys.specs.Laws.{Fits, WellFormed, ParseExact, FormatParses, ParsedIsWritten, ReaderExact}
+use Rattle.keys.specs.Laws.{Fits, WellFormed, ParseExact, FormatParses, ParsedIsWritten, ReaderExact, FileWritten}
 use Rattle.keys.specs.declared.key_file.KeyAttributes.{KeyAttributes}
 use Rattle.keys.specs.declared.key_file.KeyFile.{KeyFile}
 use Rattle.keys.specs.declared.parse.Header.{Header}
@@ -113,3 +113,7 @@ reader-exact = record {
   condition = λ f. (λ e. (header-long f e, header-marked f e), λ h. ap (λ (x : Header). x .end) (header-there f (h .0) (h .1)));
   fields = header-read;
 }
+
+pub file-written : FileWritten
+unfolding formatKeyFile keyFileHeader
+file-written = refl

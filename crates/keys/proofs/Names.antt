@@ -1,54 +1,66 @@
 -- A key's name. Assumes nothing.
 use mathlib.Core.Path.{_≡_, refl, sym, ap, _∙_}
-use mathlib.Core.List.{List, [], _∷_, _++_}
+use mathlib.Core.Bool.{true, _&&_}
+use mathlib.Core.List.{List, [], _∷_, _++_, foldl}
 use Prim.Native.Nat.{ℕ, zero, suc, _+_, _*_, _/_, _%_, _^_, _≤_, _<_}
 use native.Mathlib.Omega.{arith}
 use borrow.Author.Tests.{le-leb, lt-leb, ltb-true, ltb-false}
-use lib.Dec.{ltb}
-use lib.ListN.{length, getD, take, drop}
-use lib.Seq.{take-at, drop-at}
+use lib.Dec.{leb, ltb}
+use Rattle.spec.specs.Bytes.{every}
 use Rattle.spec.specs.Name.{hexDigit, hexDigits, keyName}
-use Rattle.spec.proofs.Split.{split}
-use Rattle.spec.proofs.Name.{digits-length, key-name-valid}
-use Rattle.keys.specs.Laws.{KeyNames}
-use Rattle.keys.proofs.Digits.{key-length}
+use Rattle.spec.proofs.Split.{split, both}
+use Rattle.spec.proofs.Name.{key-name-valid}
+use Rattle.keys.specs.Laws.{lowerHex, digitValue, numberOf, KeyNames}
+use Rattle.keys.proofs.Digits.{key-length, name-digits, no-name, high-name}
 
-digit-inj : (a b : ℕ) → a < 16 → b < 16 → hexDigit a ≡ hexDigit b → a ≡ b
-digit-inj a b ha hb e = split (ltb a 10)
-    (λ p. split (ltb b 10) (λ q. let k : 0x30 + a ≡ 0x30 + b = rw (p, q) at e in omega arith) (λ q. let k : 0x30 + a ≡ 0x57 + b = rw (p, q) at e in omega (arith, ltb-true a 10 p, ltb-false b 10 q)))
-    (λ p. split (ltb b 10) (λ q. let k : 0x57 + a ≡ 0x30 + b = rw (p, q) at e in omega (arith, ltb-false a 10 p, ltb-true b 10 q)) (λ q. let k : 0x57 + a ≡ 0x57 + b = rw (p, q) at e in omega arith))
+digit-lower : (d : ℕ) → d < 16 → lowerHex (hexDigit d) ≡ true
+digit-lower d h = split (ltb d 10)
+    (λ e. let k = ltb-true d 10 e in rw (e, le-leb 0x30 (0x30 + d) (omega arith), le-leb (0x30 + d) 0x39 (omega arith)))
+    (λ e. let k = ltb-false d 10 e in rw (e, le-leb 0x30 (0x57 + d) (omega arith), lt-leb (0x57 + d) 0x39 (omega arith), le-leb 0x61 (0x57 + d) (omega arith), le-leb (0x57 + d) 0x66 (omega arith)))
 
--- a list with one more element determines both
-front-inj : (xs ys : List ℕ) (x y k : ℕ) → length xs ≡ k → length ys ≡ k → xs ++ x ∷ [] ≡ ys ++ y ∷ [] → xs ≡ ys
-front-inj xs ys x y k p q e = sym (take-at xs (x ∷ []) k p) ∙ ap (take k) e ∙ take-at ys (y ∷ []) k q
+digit-value : (d : ℕ) → d < 16 → digitValue (hexDigit d) ≡ d
+digit-value d h = split (ltb d 10)
+    (λ e. let k = ltb-true d 10 e in rw (e, le-leb (0x30 + d) 0x39 (omega arith)) (omega arith))
+    (λ e. let k = ltb-false d 10 e in rw (e, lt-leb (0x57 + d) 0x39 (omega arith)) (omega arith))
 
-last-inj : (xs ys : List ℕ) (x y k : ℕ) → length xs ≡ k → length ys ≡ k → xs ++ x ∷ [] ≡ ys ++ y ∷ [] → x ≡ y
-last-inj xs ys x y k p q e = ap (λ (l : List ℕ). getD l 0 0) (sym (drop-at xs (x ∷ []) k p) ∙ ap (drop k) e ∙ drop-at ys (y ∷ []) k q)
+every-last : (l : List ℕ) (b : ℕ) → every lowerHex l ≡ true → lowerHex b ≡ true → every lowerHex (l ++ b ∷ []) ≡ true
+every-last [] b h k = rw k
+every-last (x ∷ l) b h k = let p = both (lowerHex x) (every lowerHex l) h in rw (p .0, every-last l b (p .1) k)
 
-digits-inj : (k i j : ℕ) → i < 16 ^ k → j < 16 ^ k → hexDigits k i ≡ hexDigits k j → i ≡ j
-digits-inj zero i j p q e = omega arith
-digits-inj (suc k) i j p q e =
+digits-lower : (k n : ℕ) → every lowerHex (hexDigits k n) ≡ true
+digits-lower zero n = refl
+digits-lower (suc k) n = every-last (hexDigits k (n / 16)) (hexDigit (n % 16)) (digits-lower k (n / 16)) (digit-lower (n % 16) (omega arith))
+
+number-from : (v : ℕ) (l : List ℕ) (b : ℕ)
+    → foldl (λ (v b : ℕ). 16 * v + digitValue b) v (l ++ b ∷ []) ≡ 16 * foldl (λ (v b : ℕ). 16 * v + digitValue b) v l + digitValue b
+number-from v [] b = refl
+number-from v (x ∷ l) b = number-from (16 * v + digitValue x) l b
+
+digits-number : (k n : ℕ) → n < 16 ^ k → numberOf (hexDigits k n) ≡ n
+digits-number zero n h = omega arith
+digits-number (suc k) n h =
     let z : 16 ^ suc k ≡ 16 * 16 ^ k = omega arith in
-    let u = hexDigits k (i / 16) in
-    let v = hexDigits k (j / 16) in
-    let a = digits-inj k (i / 16) (j / 16) (omega arith) (omega arith) (front-inj u v (hexDigit (i % 16)) (hexDigit (j % 16)) k (digits-length k (i / 16)) (digits-length k (j / 16)) e) in
-    let b = digit-inj (i % 16) (j % 16) (omega arith) (omega arith) (last-inj u v (hexDigit (i % 16)) (hexDigit (j % 16)) k (digits-length k (i / 16)) (digits-length k (j / 16)) e) in
-    omega arith
+    let a = digits-number k (n / 16) (omega arith) in
+    let b = digit-value (n % 16) (omega arith) in
+    number-from 0 (hexDigits k (n / 16)) (hexDigit (n % 16)) ∙ rw (a, b) (omega arith)
 
-name-digits : (i : ℕ) → 1 ≤ i → i ≤ 0xfffeffff → keyName i ≡ hexDigits 16 i
+name-number : (id : ℕ) → 1 ≤ id → id ≤ 0xfffeffff → numberOf (keyName id) ≡ id
+name-number id h k = ap numberOf (name-digits id h k) ∙ digits-number 16 id (omega arith)
+
+name-lower : (id : ℕ) → every lowerHex (keyName id) ≡ true
 unfolding keyName
-name-digits i h k = rw (le-leb 1 i h, le-leb i 0xfffeffff k)
+name-lower id = split (leb 1 id && leb id 0xfffeffff) (λ e. rw e (digits-lower 16 id)) (λ e. rw e)
 
 names-distinct : (i j : ℕ) → 1 ≤ i → i ≤ 0xfffeffff → 1 ≤ j → j ≤ 0xfffeffff → keyName i ≡ keyName j → i ≡ j
-names-distinct i j a b c d e = digits-inj 16 i j (omega arith) (omega arith) (sym (name-digits i a b) ∙ e ∙ name-digits j c d)
-
-none-low : keyName 0 ≡ []
-unfolding keyName
-none-low = refl
-
-none-high : (id : ℕ) → 0xfffeffff < id → keyName id ≡ []
-unfolding keyName
-none-high id h = rw (le-leb 1 id (omega arith), lt-leb id 0xfffeffff h)
+names-distinct i j a b c d e = sym (name-number i a b) ∙ ap numberOf e ∙ name-number j c d
 
 pub key-names : KeyNames
-key-names = record { valid = key-name-valid; sixteen = key-length; none-low = none-low; none-high = none-high; distinct = names-distinct }
+key-names = record {
+  valid = key-name-valid;
+  sixteen = key-length;
+  lower-case = name-lower;
+  number = name-number;
+  none-low = no-name 0 (omega arith);
+  none-high = high-name;
+  distinct = names-distinct;
+}

@@ -1,16 +1,19 @@
 -- Laws of a field taken at a place. Assumes nothing.
-use mathlib.Core.Path.{_≡_}
+use mathlib.Core.Path.{_≡_, _∙_}
 use mathlib.Core.Bool.{true, false}
-use mathlib.Core.List.{List}
+use mathlib.Core.List.{List, []}
 use Prim.Native.Nat.{ℕ, _+_, _-_, _≤_, _<_}
 use native.Mathlib.Omega.{arith}
 use borrow.Author.Tests.{leb-true, le-leb, lt-leb}
 use lib.Dec.{leb}
-use lib.ListN.{length, take, drop}
-use Rattle.spec.specs.Bytes.{bytesEq}
-use Rattle.spec.proofs.Split.{both}
-use Rattle.keys.specs.KeyFile.{mark}
-use Rattle.keys.specs.Reader.{hasBytes}
+use lib.ListN.{length, take, drop, length-drop}
+use lib.Seq.{take-all}
+use Rattle.spec.specs.Bytes.{bytesEq, u32At}
+use Rattle.spec.proofs.Split.{split, both}
+use Rattle.spec.proofs.Bytes.{bytesEq-eq, eq-bytesEq}
+use Rattle.keys.specs.KeyFile.{mark, materialLengthOf, materialOf}
+use Rattle.keys.specs.Reader.{hasBytes, takenAt, markAt, fieldAt, bytesAt, partAt}
+use Rattle.keys.specs.Laws.{WellFormed, Step, StepsExact}
 
 pub has-none : (file : List ℕ) (pos n : ℕ) → length file < pos → hasBytes file pos n ≡ false
 unfolding hasBytes
@@ -37,3 +40,41 @@ part-equal file pos n = rw (part file pos n)
 pub has-bytes : (file : List ℕ) (pos n : ℕ) → pos + n ≤ length file → hasBytes file pos n ≡ true
 unfolding hasBytes
 has-bytes file pos n h = rw (le-leb pos (length file) (omega arith), le-leb n (length file - pos) (omega arith))
+
+-- ---- the steps
+
+pub lacks-bytes : (file : List ℕ) (pos n : ℕ) → (¬ (pos + n ≤ length file)) → hasBytes file pos n ≡ false
+lacks-bytes file pos n h = split (hasBytes file pos n) (λ e. absurd (h (has-end file pos n e))) (λ e. e)
+
+mark-step : (file : List ℕ) (pos : ℕ) → Step pos 8 0 ((pos + 8 ≤ length file) × (take 8 (drop pos file) ≡ mark)) (markAt file pos)
+unfolding markAt takenAt
+mark-step file pos = record {
+  done = λ h. rw (has-bytes file pos 8 (h .0), eq-bytesEq (take 8 (drop pos file)) mark (h .1));
+  refused = λ n. split (hasBytes file pos 8)
+      (λ e. split (bytesEq (take 8 (drop pos file)) mark) (λ b. absurd (n (has-end file pos 8 e, bytesEq-eq (take 8 (drop pos file)) mark b))) (λ b. rw (e, b)))
+      (λ e. rw e);
+}
+
+field-step : (file : List ℕ) (pos : ℕ) → Step pos 4 (u32At file pos) (pos + 4 ≤ length file) (fieldAt file pos)
+unfolding fieldAt takenAt
+field-step file pos = record { done = λ h. rw (has-bytes file pos 4 h); refused = λ n. rw (lacks-bytes file pos 4 n) }
+
+bytes-step : (file : List ℕ) (pos n : ℕ) → Step pos n 0 (pos + n ≤ length file) (bytesAt file pos n)
+unfolding bytesAt takenAt
+bytes-step file pos n = record { done = λ h. rw (has-bytes file pos n h); refused = λ k. rw (lacks-bytes file pos n k) }
+
+some-part : (file : List ℕ) (pos n : ℕ) → pos + n ≤ length file → partAt file pos n ≡ take n (drop pos file)
+unfolding partAt
+some-part file pos n h = rw (has-bytes file pos n h)
+
+no-part : (file : List ℕ) (pos n : ℕ) → (¬ (pos + n ≤ length file)) → partAt file pos n ≡ []
+unfolding partAt
+no-part file pos n h = rw (lacks-bytes file pos n h)
+
+material-part : (f : List ℕ) → WellFormed f → partAt f 36 (materialLengthOf f) ≡ materialOf f
+material-part f w =
+    some-part f 36 (materialLengthOf f) (omega (arith, w .whole))
+    ∙ take-all (materialLengthOf f) (drop 36 f) (omega (arith, w .whole, length-drop 36 f))
+
+pub steps-exact : StepsExact
+steps-exact = record { of-mark = mark-step; of-field = field-step; of-bytes = bytes-step; part = some-part; no-part = no-part; material = material-part }

@@ -1,18 +1,21 @@
 -- What holds of key files and of the calls on them, as statements. They are proved in `proofs/`.
 use mathlib.Core.Path.{_≡_}
 use mathlib.Core.Logic.{_↔_}
-use mathlib.Core.Bool.{true}
-use mathlib.Core.List.{List, [], _∷_, _++_}
-use Prim.Native.Nat.{ℕ, _+_, _^_, _≤_, _<_}
+use mathlib.Core.Bool.{Bool, true, cond, _&&_, _||_}
+use mathlib.Core.List.{List, [], _∷_, _++_, foldl}
+use Prim.Native.Nat.{ℕ, _+_, _-_, _*_, _^_, _≤_, _<_}
+use lib.Dec.{leb}
 use lib.ListN.{length, take, drop}
+use Rattle.spec.specs.Bytes.{every, u32At}
 use Rattle.spec.specs.Status.{ok}
 use Rattle.spec.specs.Name.{validName, keyName}
-use Rattle.spec.specs.Calls.{Got, bindingOf}
-use Rattle.spec.specs.Demands.{WrittenWell, GotWell, Readable, opened}
+use Rattle.spec.specs.Calls.{Got, bindingOf, storeSet}
+use Rattle.spec.specs.Demands.{WrittenWell, GotWell, Readable, opened, Stores}
 use Rattle.spec.specs.Refusals.{_when_, FirstOf, areaLengths, keyLength, ivLength, areaDamage, Held, setRefusals, roomRefusals, getRefusals}
 use Rattle.spec.specs.Shapes.{AreBytes}
 use Rattle.keys.specs.KeyFile.{mark, formatKeyFile, versionOf, materialLengthOf, materialOf, attributesOf, parseKeyFile}
-use Rattle.keys.specs.Reader.{readHeader}
+use Rattle.keys.specs.Reader.{markAt, fieldAt, bytesAt, partAt, readHeader}
+use Rattle.keys.specs.declared.fields.Field.{Field}
 use Rattle.keys.specs.Calls.{writeKeyFile, saveKey, loadKey}
 use Rattle.keys.specs.declared.key_file.KeyAttributes.{KeyAttributes}
 
@@ -58,11 +61,44 @@ pub record ReaderExact : Type 0 where
   pub fields : (f : List ℕ) → readHeader f .end ≡ 36
       → readHeader f ≡ record { version = versionOf f; attributes = attributesOf f; «material_len» = materialLengthOf f; end = 36 }
 
+-- a step that takes n bytes: done where its fact holds, with its value and the place behind them; else 13, 0, and the place as it was
+pub record Step (pos n value : ℕ) (fact : Type 0) (f : Field) : Type 0 where
+  pub done : fact → f ≡ record { status = ok; value = value; pos = pos + n }
+  pub refused : (¬ fact) → f ≡ record { status = 13; value = 0; pos = pos }
+
+pub record StepsExact : Type 0 where
+  pub of-mark : (file : List ℕ) (pos : ℕ) → Step pos 8 0 ((pos + 8 ≤ length file) × (take 8 (drop pos file) ≡ mark)) (markAt file pos)
+  pub of-field : (file : List ℕ) (pos : ℕ) → Step pos 4 (u32At file pos) (pos + 4 ≤ length file) (fieldAt file pos)
+  pub of-bytes : (file : List ℕ) (pos n : ℕ) → Step pos n 0 (pos + n ≤ length file) (bytesAt file pos n)
+  pub part : (file : List ℕ) (pos n : ℕ) → pos + n ≤ length file → partAt file pos n ≡ take n (drop pos file)
+  pub no-part : (file : List ℕ) (pos n : ℕ) → (¬ (pos + n ≤ length file)) → partAt file pos n ≡ []
+  -- the material of a file is the part behind its header
+  pub material : (f : List ℕ) → WellFormed f → partAt f 36 (materialLengthOf f) ≡ materialOf f
+
+-- one file, written out
+abbrev pub FileWritten : Type 0
+FileWritten =
+    formatKeyFile (record { lifetime = 0x04030201; «key_type» = 0x14131211; usage = 0x24232221; alg = 0x34333231; «enrollment_alg» = 0x44434241 }) (0x6d ∷ 0x6e ∷ [])
+    ≡ 0x50 ∷ 0x53 ∷ 0x41 ∷ 0x00 ∷ 0x4b ∷ 0x45 ∷ 0x59 ∷ 0x00 ∷ 0x00 ∷ 0x00 ∷ 0x00 ∷ 0x00 ∷ 0x01 ∷ 0x02 ∷ 0x03 ∷ 0x04 ∷ 0x11 ∷ 0x12 ∷ 0x13 ∷ 0x14
+    ∷ 0x21 ∷ 0x22 ∷ 0x23 ∷ 0x24 ∷ 0x31 ∷ 0x32 ∷ 0x33 ∷ 0x34 ∷ 0x41 ∷ 0x42 ∷ 0x43 ∷ 0x44 ∷ 0x02 ∷ 0x00 ∷ 0x00 ∷ 0x00 ∷ 0x6d ∷ 0x6e ∷ []
+
 -- ---- the name of a key
+
+-- a lower-case hex digit, its value, and the number that digits stand for
+abbrev pub lowerHex : ℕ → Bool
+lowerHex b = (leb 0x30 b && leb b 0x39) || (leb 0x61 b && leb b 0x66)
+
+abbrev pub digitValue : ℕ → ℕ
+digitValue b = cond (leb b 0x39) (b - 0x30) (b - 0x57)
+
+abbrev pub numberOf : List ℕ → ℕ
+numberOf digits = foldl (λ (v b : ℕ). 16 * v + digitValue b) 0 digits
 
 pub record KeyNames : Type 0 where
   pub valid : (id : ℕ) → 1 ≤ id → id ≤ 0xfffeffff → validName (keyName id) ≡ true
   pub sixteen : (id : ℕ) → 1 ≤ id → id ≤ 0xfffeffff → length (keyName id) ≡ 16
+  pub lower-case : (id : ℕ) → every lowerHex (keyName id) ≡ true
+  pub number : (id : ℕ) → 1 ≤ id → id ≤ 0xfffeffff → numberOf (keyName id) ≡ id
   pub none-low : keyName 0 ≡ []
   pub none-high : (id : ℕ) → 0xfffeffff < id → keyName id ≡ []
   -- no two keys have one name
@@ -114,6 +150,15 @@ pub record LoadExact : Type 0 where
       → (loadKey kv rbp key id buf .status ≡ ok) ↔ LoadReady kv rbp key id buf
   pub gives : (kv rbp key : List ℕ) (id : ℕ) (buf : List ℕ) (h : LoadReady kv rbp key id buf)
       → loadKey kv rbp key id buf ≡ loaded buf (opened key (keyName id) (h .readable .r))
+
+-- a save that is not refused for its material is the set of its file; so a done save stores that record under the key's name, byte for byte, and
+-- changes nothing else
+pub record SaveExact : Type 0 where
+  pub is-set : (kv rbp key : List ℕ) (id : ℕ) (a : KeyAttributes) (material : List ℕ) (flags : ℕ) (iv : List ℕ) → length material ≤ 444
+      → saveKey kv rbp key id a material flags iv ≡ storeSet kv rbp key (keyName id) flags iv (formatKeyFile a material)
+  pub stores : (kv rbp key : List ℕ) (id : ℕ) (a : KeyAttributes) (material : List ℕ) (flags : ℕ) (iv : List ℕ)
+      → saveKey kv rbp key id a material flags iv .status ≡ ok
+      → Stores kv rbp key (keyName id) flags iv (formatKeyFile a material) (saveKey kv rbp key id a material flags iv)
 
 -- a key that was saved is loaded with the same device key
 abbrev pub SaveLoads : Type 0

@@ -33,19 +33,19 @@ pub(crate) fn put_key_file(attributes: KeyAttributes, material: &[u8], dst: &mut
     ensures { λ _. ⌜ now (dst .exit) ≡ formatKeyFile attributes (now (material .entry)) ++ drop (36 + length (now (material .entry))) (now (dst .entry)) ⌝ }
 {
     put_header(attributes, material.len() as u32, dst);
-    buffers::paste(dst, 36, material);
+    buffers::paste(dst, key_file::KEY_FILE_HEADER, material);
 }
 
 pub fn format_key_file(attributes: KeyAttributes, material: &[u8], key_buf: &mut [u8]) -> Got
     ensures { λ r. ⌜ got r (now («key_buf» .exit)) ≡ writeKeyFile attributes (now (material .entry)) (now («key_buf» .entry)) ⌝ }
 {
-    if key_buf.len() < 480 {
+    if key_buf.len() < key_file::MAX_KEY_FILE {
         return Got {
             status: status::ERR_LENGTH,
             count: 0,
         };
     }
-    if 444 < material.len() {
+    if key_file::MAX_KEY_MATERIAL < material.len() {
         return Got {
             status: status::ERR_INVALID_KEY_FILE,
             count: 0,
@@ -54,6 +54,6 @@ pub fn format_key_file(attributes: KeyAttributes, material: &[u8], key_buf: &mut
     put_key_file(attributes, material, key_buf);
     Got {
         status: status::OK,
-        count: 36 + material.len(),
+        count: key_file::KEY_FILE_HEADER + material.len(),
     }
 }

@@ -19,3 +19,10 @@ pub const KEY_FILE_MARK: [u8; 8] = *b"PSA\0KEY\0";
 
 // The only version that is written or accepted.
 pub const KEY_FILE_VERSION: u32 = 0;
+
+pub const KEY_FILE_HEADER: usize = 36;
+
+pub const MAX_KEY_MATERIAL: usize = 444;
+
+// What a record can hold, and what a key buffer must be able to.
+pub const MAX_KEY_FILE: usize = 480;

@@ -2,7 +2,7 @@
 pub mod fields;
 pub mod format;
 pub mod key_file;
-pub mod key_name;
+mod key_name;
 pub mod parse;
 pub mod persist;
 pub mod reader;

@@ -62,17 +62,17 @@ fn parse_whole(file: &[u8]) -> KeyFile
     ensures { λ r. ⌜ r ≡ parseKeyFile (now (file .entry)) ⌝ }
 {
     let header = read_header(file);
-    if header.end != 36 {
+    if header.end != key_file::KEY_FILE_HEADER {
         return refused();
     }
     if header.version != key_file::KEY_FILE_VERSION {
         return refused();
     }
-    // Before the material is taken, so that no length field can wrap.
-    if 444 < header.material_len {
+    let material_len = header.material_len as usize;
+    if key_file::MAX_KEY_MATERIAL < material_len {
         return refused();
     }
-    let material = fields::bytes_at(file, header.end, header.material_len as usize);
+    let material = fields::bytes_at(file, header.end, material_len);
     if material.status != status::OK {
         return refused();
     }

@@ -1,5 +1,6 @@
 // Keys kept as records under their identifiers.
 use crate::format;
+use crate::key_file;
 use crate::key_file::KeyAttributes;
 use crate::key_name;
 use crate::reader;
@@ -52,12 +53,12 @@ pub fn save_persistent_key(
 ) -> u32
     ensures { λ r. ⌜ written r (now (kv .exit)) (now (rbp .exit)) ≡ saveKey (now (kv .entry)) (now (rbp .entry)) (now («device_key» .entry)) «key_id» attributes (now (material .entry)) flags (now (iv .entry)) ⌝ }
 {
-    if 444 < material.len() {
+    if key_file::MAX_KEY_MATERIAL < material.len() {
         return status::ERR_INVALID_KEY_FILE;
     }
-    let mut file = [0u8; 480];
+    let mut file = [0u8; key_file::MAX_KEY_FILE];
     format::put_key_file(attributes, material, &mut file);
-    let len = 36 + material.len();
+    let len = key_file::KEY_FILE_HEADER + material.len();
     set_key(kv, rbp, device_key, key_id, flags, iv, &file[0..len])
 }
 
@@ -77,10 +78,10 @@ pub fn load_persistent_key(
 ) -> Got
     ensures { λ r. ⌜ got r (now («key_buf» .exit)) ≡ loadKey (now (kv .entry)) (now (rbp .entry)) (now («device_key» .entry)) «key_id» (now («key_buf» .entry)) ⌝ }
 {
-    if key_buf.len() < 480 {
+    if key_buf.len() < key_file::MAX_KEY_FILE {
         return refused(status::ERR_LENGTH);
     }
-    let mut file = [0u8; 480];
+    let mut file = [0u8; key_file::MAX_KEY_FILE];
     let found = get_key(kv, rbp, device_key, key_id, &mut file);
     if found.status != status::OK {
         return refused(found.status);

@@ -1,14 +1,17 @@
 -- `keys::key_name::key_name_len`: the two tests of an identifier.
-use mathlib.Core.Path.{sym}
-use Rattle.keys.proofs.Digits.{no-key, high-key, key-length}
+use mathlib.Core.Path.{sym, ap}
+use mathlib.Core.List.{List}
+use Prim.Native.Nat.{ℕ}
+use lib.ListN.{length}
+use Rattle.keys.proofs.Digits.{no-name, high-name, key-length}
 use Rattle.keys.proofs.key_name.key_name_len.Statement.{statement}
 use Rattle.keys.proofs.key_name.key_name_len.Tie as tie
 
 returns : tie.Need-returns
-returns c = sym (no-key (c .before .args .key-id) (c .if1 .taken))
+returns c = sym (ap (λ (l : List ℕ). length l) (no-name (c .before .args .key-id) (c .if1 .taken)))
 
 returns-2 : tie.Need-returns-2
-returns-2 c = sym (high-key (c .before .before .args .key-id) (c .if2 .taken))
+returns-2 c = sym (ap (λ (l : List ℕ). length l) (high-name (c .before .before .args .key-id) (c .if2 .taken)))
 
 returns-3 : tie.Need-returns-3
 returns-3 c = sym (key-length (c .before .before .args .key-id) (c .before .if1 .left) (c .if2 .left))
