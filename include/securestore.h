@@ -1,0 +1,116 @@
+/* securestore: named records over a removable card and a small protected chip. Link libsecurestore.a, which needs memcpy and memset and nothing else.
+ *
+ * The library keeps nothing between calls, allocates nothing and does no input or output. The caller reads card and chip into two buffers, lends them
+ * to a call, and writes them back after a call that answered SECURESTORE_OK and may have changed them.
+ *
+ * Pointers. The library is proved for lent memory, and what makes memory lent is the caller's part:
+ * - no pointer is null, also where its length is 0;
+ * - each is valid for its length (or for the size in its declaration), for writing where it is not const, and aligned for its type;
+ * - memory that a call may write overlaps nothing else that is lent to the same call;
+ * - nobody else uses lent memory while the call runs.
+ * Nothing is asked of the contents, the lengths or the numbers: every value has an answer.
+ *
+ * Answers. A store call returns one of the numbers below, that of the first test that fails in the order given at the call. A refusal changes no lent
+ * buffer and writes 0 through every out-number (count, data_size, flags, name_len, next_slot).
+ *
+ * Time. Tags are compared in full, but AES works by table look-ups: its time may depend on key and data where the machine has a data cache. */
+#ifndef SECURESTORE_H
+#define SECURESTORE_H
+
+#include <stddef.h>
+#include <stdint.h>
+
+/* Numbers that the store's calls return. */
+#define SECURESTORE_OK 0u
+#define SECURESTORE_ERR_LENGTH 1u         /* card, chip, device key, IV, name buffer or key buffer of a wrong length */
+#define SECURESTORE_ERR_CORRUPT 2u        /* card or chip is damaged */
+#define SECURESTORE_ERR_INVALID_NAME 3u   /* bad name, prefix or key identifier */
+#define SECURESTORE_ERR_INVALID_FLAGS 4u  /* unknown bits, or replay protection without integrity */
+#define SECURESTORE_ERR_DATA_SIZE 5u      /* more data than a record holds */
+#define SECURESTORE_ERR_NOT_FOUND 6u      /* neither card nor chip knows the name, or no name has the prefix */
+#define SECURESTORE_ERR_ALREADY_EXISTS 7u /* a record that is written once */
+#define SECURESTORE_ERR_INVALID_RECORD 8u /* the stored record is not well formed */
+#define SECURESTORE_ERR_FLAGS_MISMATCH 9u /* the flags differ from the stored ones */
+#define SECURESTORE_ERR_NO_SPACE 10u      /* no free slot on the card or in the chip */
+#define SECURESTORE_ERR_AUTHENTICATION 11u /* the record's CMAC is wrong */
+#define SECURESTORE_ERR_ROLLBACK 12u      /* the chip knows another record of this name: the card is old or was changed */
+#define SECURESTORE_ERR_INVALID_KEY_FILE 13u
+#define SECURESTORE_ERR_OFFSET 14u        /* the offset lies beyond the data */
+
+/* Flags of a record. */
+#define SECURESTORE_WRITE_ONCE 1u
+#define SECURESTORE_REQUIRE_CONFIDENTIALITY 2u
+#define SECURESTORE_REQUIRE_INTEGRITY 4u
+#define SECURESTORE_REQUIRE_REPLAY_PROTECTION 8u /* only together with integrity */
+
+/* Sizes in bytes. A card is 1 to 64 slots of 584, a chip 1 to 64 slots of 82; all zero is empty. */
+#define SECURESTORE_KV_SLOT_SIZE 584u
+#define SECURESTORE_KV_SLOTS_MAX 64u
+#define SECURESTORE_RBP_SLOT_SIZE 82u
+#define SECURESTORE_RBP_SLOTS_MAX 64u
+#define SECURESTORE_DEVICE_KEY_SIZE 16u
+#define SECURESTORE_IV_SIZE 8u
+#define SECURESTORE_BLOCK_SIZE 16u
+#define SECURESTORE_NAME_MAX 64u /* a name has 1 to 64 bytes, each 0x21 to 0x7e */
+#define SECURESTORE_DATA_MAX 480u
+
+#ifdef __cplusplus
+extern "C" {
+#endif
+
+/* Stores data under a name: a new name takes the lowest free slot, a known one keeps its own. With replay protection the record's CMAC goes to the
+ * chip too, so both buffers must reach their media. iv must be new for every set with confidentiality under one device key.
+ * Tests: 1 lengths (card, chip, key of 16, IV of 8), 2 damage, 3 name, 4 flags, 5 data over 480;
+ * where the card holds the name: 8, then 7 if the old or the new flags say write once, then 9;
+ * where it does not: 7 if the new flags say write once and the chip holds the name; then 10. */
+uint32_t securestore_set(uint8_t *kv, size_t kv_len, uint8_t *rbp, size_t rbp_len, const uint8_t *device_key, size_t device_key_len,
+                         const uint8_t *name, size_t name_len, uint32_t flags, const uint8_t *iv, size_t iv_len, const uint8_t *data,
+                         size_t data_len);
+
+/* Reads a record's data from an offset: *count is the smaller of output_len and what lies behind the offset, and so many bytes are written to the
+ * front of output; the rest of it is as before. Plaintext is written only after all tests.
+ * Tests: 1 lengths, 2 damage, 3 name; not on the card: 12 if the chip holds the name, else 6;
+ * 8; 11 where integrity is flagged; 12 where replay protection is flagged and the chip's copy is absent or differs; 14. */
+uint32_t securestore_get(const uint8_t *kv, size_t kv_len, const uint8_t *rbp, size_t rbp_len, const uint8_t *device_key,
+                         size_t device_key_len, const uint8_t *name, size_t name_len, size_t offset, uint8_t *output, size_t output_len,
+                         size_t *count);
+
+/* A record's data size and flags. Judged as a get at offset 0: the same tests in the same order, all but 14. */
+uint32_t securestore_get_info(const uint8_t *kv, size_t kv_len, const uint8_t *rbp, size_t rbp_len, const uint8_t *device_key,
+                              size_t device_key_len, const uint8_t *name, size_t name_len, uint32_t *data_size, uint32_t *flags);
+
+/* Clears the name's slot on the card, and with replay protection the one in the chip.
+ * Tests: 1 lengths, 2 damage, 3 name, 6 not on the card, 8, 7 if the record is written once. */
+uint32_t securestore_remove(uint8_t *kv, size_t kv_len, uint8_t *rbp, size_t rbp_len, const uint8_t *name, size_t name_len);
+
+/* Clears card and chip, whatever they hold. Tests: 1 lengths, and nothing else. */
+uint32_t securestore_reset(uint8_t *kv, size_t kv_len, uint8_t *rbp, size_t rbp_len);
+
+/* The first name with the prefix from a slot on, for walking over names: start with start_slot 0, go on with *next_slot until the answer is 6.
+ * The name goes to the front of name_buf, the rest of it is as before; *name_len is its length, *next_slot the slot after it.
+ * Tests: 1 lengths (name_buf of at least 64), 2 damage, 3 prefix (0 to 64 bytes that a name may hold), 6. No record is judged. */
+uint32_t securestore_iterator_next(const uint8_t *kv, size_t kv_len, const uint8_t *rbp, size_t rbp_len, const uint8_t *prefix,
+                                   size_t prefix_len, size_t start_slot, uint8_t *name_buf, size_t name_buf_len, size_t *name_len,
+                                   size_t *next_slot);
+
+/* The ciphers below have no refusal. */
+
+/* AES-128 (FIPS 197): encrypts the block in place. */
+void securestore_aes128_encrypt(const uint8_t key[16], uint8_t block[16]);
+
+/* CMAC over AES-128 (SP 800-38B) of a whole message. */
+void securestore_cmac(const uint8_t key[16], const uint8_t *message, size_t message_len, uint8_t tag[16]);
+
+/* Counter mode over AES-128 (SP 800-38A), in place; the same call decrypts. The first counter block is iv, then a 64-bit big-endian 0. */
+void securestore_ctr(const uint8_t key[16], const uint8_t iv[8], uint8_t *data, size_t data_len);
+
+/* Key derivation (SP 800-108, counter mode over CMAC): the salt is prefix and name, cut to 32 bytes in all. A record's keys have the prefixes
+ * "ENC" and "AUTH". */
+void securestore_derive(const uint8_t device_key[16], const uint8_t *prefix, size_t prefix_len, const uint8_t *name, size_t name_len,
+                        uint8_t out[16]);
+
+#ifdef __cplusplus
+}
+#endif
+
+#endif

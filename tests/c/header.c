@@ -1,0 +1,180 @@
+/* Calls every function of securestore.h once or more, so that header and library are seen to agree. Compiled as C99 and as C++.
+ * Known answers: FIPS 197, C.1; SP 800-38B, D.1; 01's whole slot; the others were computed with OpenSSL from the definitions.
+ * The last line is 'N passed, M failed'. */
+#include <stdio.h>
+#include <string.h>
+
+#include "securestore.h"
+
+static unsigned passed, failed;
+
+static void expect(int holds, const char *what)
+{
+    if (holds) {
+        passed++;
+    } else {
+        failed++;
+        printf("failed: %s\n", what);
+    }
+}
+
+static const uint8_t KEY[16] = {0x2b, 0x7e, 0x15, 0x16, 0x28, 0xae, 0xd2, 0xa6, 0xab, 0xf7, 0x15, 0x88, 0x09, 0xcf, 0x4f, 0x3c};
+static const uint8_t IV[8] = {'t', 'h', 'e', ' ', 'i', 'v', ' ', '8'};
+static const uint8_t NAME[1] = {'a'};
+static const uint8_t PLAYER[8] = {'p', 'l', 'a', 'y', 'e', 'r', '/', '1'};
+static const uint8_t LINE[31] = {'t', 'h', 'e', ' ', 'k', 'e', 'y', ' ', 's', 't', 'r', 'e', 'a', 'm', ' ', 'i',
+                                 's', ' ', 'o', 'f', ' ', 't', 'w', 'e', 'n', 't', 'y', '-', 's', 'i', 'x'};
+
+static uint8_t kv[2 * SECURESTORE_KV_SLOT_SIZE], rbp[SECURESTORE_RBP_SLOT_SIZE];
+
+static void test_aes(void)
+{
+    static const uint8_t want[16] = {0x69, 0xc4, 0xe0, 0xd8, 0x6a, 0x7b, 0x04, 0x30, 0xd8, 0xcd, 0xb7, 0x80, 0x70, 0xb4, 0xc5, 0x5a};
+    uint8_t key[16], block[16];
+    unsigned i;
+    for (i = 0; i < 16; i++) {
+        key[i] = (uint8_t)i;
+        block[i] = (uint8_t)(i * 0x11);
+    }
+    securestore_aes128_encrypt(key, block);
+    expect(memcmp(block, want, 16) == 0, "aes128_encrypt: FIPS 197, C.1");
+}
+
+static void test_cmac(void)
+{
+    static const uint8_t message[16] = {0x6b, 0xc1, 0xbe, 0xe2, 0x2e, 0x40, 0x9f, 0x96, 0xe9, 0x3d, 0x7e, 0x11, 0x73, 0x93, 0x17, 0x2a};
+    static const uint8_t empty[16] = {0xbb, 0x1d, 0x69, 0x29, 0xe9, 0x59, 0x37, 0x28, 0x7f, 0xa3, 0x7d, 0x12, 0x9b, 0x75, 0x67, 0x46};
+    static const uint8_t whole[16] = {0x07, 0x0a, 0x16, 0xb4, 0x6b, 0x4d, 0x41, 0x44, 0xf7, 0x9b, 0xdd, 0x9d, 0xd0, 0x4a, 0x28, 0x7c};
+    uint8_t tag[16];
+    securestore_cmac(KEY, message, 0, tag);
+    expect(memcmp(tag, empty, 16) == 0, "cmac: SP 800-38B, example 1");
+    securestore_cmac(KEY, message, 16, tag);
+    expect(memcmp(tag, whole, 16) == 0, "cmac: SP 800-38B, example 2");
+}
+
+static void test_ctr(void)
+{
+    static const uint8_t want[31] = {0xf4, 0xc5, 0xf1, 0x65, 0x92, 0x89, 0xaf, 0x36, 0xd2, 0x22, 0x87, 0xc9, 0xcf, 0x08, 0xc4, 0xdd,
+                                     0x74, 0x3b, 0x89, 0xba, 0x74, 0x6c, 0xa4, 0x61, 0x76, 0x38, 0xc0, 0xe7, 0x14, 0xb2, 0x49};
+    uint8_t buf[32];
+    memcpy(buf, LINE, 31);
+    buf[31] = 0xee;
+    securestore_ctr(KEY, IV, buf, 31);
+    expect(memcmp(buf, want, 31) == 0, "ctr: 31 bytes");
+    expect(buf[31] == 0xee, "ctr: the byte behind the data is kept");
+    securestore_ctr(KEY, IV, buf, 31);
+    expect(memcmp(buf, LINE, 31) == 0, "ctr: twice gives the data back");
+}
+
+static void test_derive(void)
+{
+    static const uint8_t want[16] = {0x29, 0xab, 0xde, 0x78, 0x3e, 0xb5, 0xef, 0x19, 0x8b, 0x34, 0x43, 0xbb, 0xef, 0x0f, 0xdf, 0xac};
+    static const uint8_t auth[4] = {'A', 'U', 'T', 'H'};
+    uint8_t out[16];
+    securestore_derive(KEY, auth, sizeof auth, NAME, sizeof NAME, out);
+    expect(memcmp(out, want, 16) == 0, "derive: AUTH and a");
+}
+
+static uint32_t set(const uint8_t *name, size_t name_len, uint32_t flags, const uint8_t *data, size_t data_len)
+{
+    return securestore_set(kv, sizeof kv, rbp, sizeof rbp, KEY, sizeof KEY, name, name_len, flags, IV, sizeof IV, data, data_len);
+}
+
+/* A card of one slot, all zero; name "a", flags 0, no data: every byte is known. */
+static void test_whole_slot(void)
+{
+    static const uint8_t zeros[SECURESTORE_KV_SLOT_SIZE] = {0};
+    uint8_t want[SECURESTORE_KV_SLOT_SIZE] = {1, 1, 0x24, 0, 'a'};
+    want[68] = 0x14;
+    want[70] = 1;
+    memset(kv, 0, sizeof kv);
+    memset(rbp, 0, sizeof rbp);
+    expect(securestore_set(kv, SECURESTORE_KV_SLOT_SIZE, rbp, sizeof rbp, KEY, sizeof KEY, NAME, sizeof NAME, 0, IV, sizeof IV, LINE, 0) == SECURESTORE_OK,
+           "set: whole slot");
+    expect(memcmp(kv, want, sizeof want) == 0, "set: whole slot's bytes");
+    expect(memcmp(kv + sizeof want, zeros, sizeof zeros) == 0, "set: nothing behind the card");
+    expect(memcmp(rbp, zeros, sizeof rbp) == 0, "set: chip as it was");
+}
+
+/* Encrypted, authenticated and replay protected: the record ends in its CMAC, and so does the chip's slot. */
+static void test_sealed_slot(void)
+{
+    static const uint8_t tag[16] = {0x77, 0x4a, 0x89, 0x7a, 0x77, 0x96, 0x53, 0x5c, 0x4f, 0x84, 0x04, 0xf1, 0x56, 0x87, 0x4a, 0x22};
+    static const char *data = "seven players, one night, one old card";
+    uint8_t slot[SECURESTORE_KV_SLOT_SIZE] = {0}, entry[SECURESTORE_RBP_SLOT_SIZE] = {0};
+    expect(securestore_set(slot, sizeof slot, entry, sizeof entry, (const uint8_t *)"the device's key", 16, PLAYER, sizeof PLAYER, 14, IV, sizeof IV,
+                           (const uint8_t *)data, strlen(data)) == SECURESTORE_OK,
+           "set: sealed slot");
+    expect(memcmp(slot + 68 + 20 + strlen(data), tag, 16) == 0, "set: the record's CMAC");
+    expect(memcmp(entry + 66, tag, 16) == 0, "set: the chip's copy");
+}
+
+static void test_get(void)
+{
+    uint8_t output[40];
+    size_t count = 99;
+    memset(output, 0xee, sizeof output);
+    expect(securestore_get(kv, sizeof kv, rbp, sizeof rbp, KEY, sizeof KEY, PLAYER, sizeof PLAYER, 4, output, sizeof output, &count) == SECURESTORE_OK,
+           "get: status");
+    expect(count == 27 && memcmp(output, LINE + 4, 27) == 0, "get: from offset 4");
+    expect(output[27] == 0xee && output[39] == 0xee, "get: the rest of the output is kept");
+    expect(securestore_get(kv, sizeof kv, rbp, sizeof rbp, KEY, sizeof KEY, PLAYER, sizeof PLAYER, 32, output, sizeof output, &count) == SECURESTORE_ERR_OFFSET,
+           "get: offset beyond the data");
+    expect(count == 0 && memcmp(output, LINE + 4, 27) == 0, "get: a refusal gives count 0 and keeps the output");
+    count = 99;
+    expect(securestore_get(kv, sizeof kv, rbp, sizeof rbp, KEY, 15, PLAYER, sizeof PLAYER, 0, output, sizeof output, &count) == SECURESTORE_ERR_LENGTH && count == 0,
+           "get: key of 15");
+}
+
+static void test_get_info(void)
+{
+    uint32_t data_size = 99, flags = 99;
+    expect(securestore_get_info(kv, sizeof kv, rbp, sizeof rbp, KEY, sizeof KEY, PLAYER, sizeof PLAYER, &data_size, &flags) == SECURESTORE_OK,
+           "get_info: status");
+    expect(data_size == 31 && flags == 14, "get_info: size and flags");
+    expect(securestore_get_info(kv, sizeof kv, rbp, sizeof rbp, KEY, sizeof KEY, PLAYER, 7, &data_size, &flags) == SECURESTORE_ERR_NOT_FOUND,
+           "get_info: another name");
+    expect(data_size == 0 && flags == 0, "get_info: a refusal gives zeros");
+}
+
+static void test_iterator_next(void)
+{
+    uint8_t name_buf[64];
+    size_t name_len = 99, next_slot = 99;
+    memset(name_buf, 0xee, sizeof name_buf);
+    expect(securestore_iterator_next(kv, sizeof kv, rbp, sizeof rbp, PLAYER, 7, 0, name_buf, sizeof name_buf, &name_len, &next_slot) == SECURESTORE_OK,
+           "iterator_next: status");
+    expect(name_len == 8 && next_slot == 2 && memcmp(name_buf, PLAYER, 8) == 0 && name_buf[8] == 0xee, "iterator_next: second slot");
+    expect(securestore_iterator_next(kv, sizeof kv, rbp, sizeof rbp, PLAYER, 7, next_slot, name_buf, sizeof name_buf, &name_len, &next_slot) == SECURESTORE_ERR_NOT_FOUND,
+           "iterator_next: no more");
+    expect(name_len == 0 && next_slot == 0, "iterator_next: a refusal gives zeros");
+}
+
+static void test_remove_and_reset(void)
+{
+    static const uint8_t zeros[2 * SECURESTORE_KV_SLOT_SIZE] = {0};
+    expect(securestore_remove(kv, sizeof kv, rbp, sizeof rbp, PLAYER, sizeof PLAYER) == SECURESTORE_OK, "remove: status");
+    expect(memcmp(kv + SECURESTORE_KV_SLOT_SIZE, zeros, SECURESTORE_KV_SLOT_SIZE) == 0 && memcmp(rbp, zeros, sizeof rbp) == 0, "remove: slot and chip cleared");
+    expect(securestore_remove(kv, sizeof kv, rbp, sizeof rbp, PLAYER, sizeof PLAYER) == SECURESTORE_ERR_NOT_FOUND, "remove: twice");
+    expect(kv[0] == 1, "remove: the other slot is kept");
+    expect(securestore_reset(kv, sizeof kv, rbp, sizeof rbp - 1) == SECURESTORE_ERR_LENGTH && kv[0] == 1, "reset: chip of 81");
+    expect(securestore_reset(kv, sizeof kv, rbp, sizeof rbp) == SECURESTORE_OK && memcmp(kv, zeros, sizeof kv) == 0, "reset: card cleared");
+}
+
+int main(void)
+{
+    test_aes();
+    test_cmac();
+    test_ctr();
+    test_derive();
+    test_sealed_slot();
+    test_whole_slot();
+    expect(set(PLAYER, sizeof PLAYER, 14, LINE, sizeof LINE) == SECURESTORE_OK, "set: encrypted and protected");
+    expect(set(PLAYER, sizeof PLAYER, 12, LINE, sizeof LINE) == SECURESTORE_ERR_FLAGS_MISMATCH, "set: other flags");
+    test_get();
+    test_get_info();
+    test_iterator_next();
+    test_remove_and_reset();
+    printf("%u passed, %u failed\n", passed, failed);
+    return failed != 0;
+}
