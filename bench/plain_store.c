@@ -1,0 +1,283 @@
+/* Get and set with the store's tests in the store's order, names compared by memcmp. */
+#include <string.h>
+
+#include "plain.h"
+
+struct format {
+    size_t slot, name, payload, payload_len;
+};
+
+static const struct format KV = {584, 4, 68, 516}, RBP = {82, 2, 66, 16};
+
+static uint32_t number(const uint8_t *p, unsigned bytes)
+{
+    uint32_t n = 0;
+    while (0 < bytes) {
+        n = n << 8 | p[--bytes];
+    }
+    return n;
+}
+
+static int all_zero(const uint8_t *p, size_t n)
+{
+    uint8_t seen = 0;
+    size_t i;
+    for (i = 0; i < n; i++) {
+        seen |= p[i];
+    }
+    return seen == 0;
+}
+
+static int good_name(const uint8_t *name, size_t len)
+{
+    size_t i;
+    if (len < 1 || 64 < len) {
+        return 0;
+    }
+    for (i = 0; i < len; i++) {
+        if (name[i] < 0x21 || 0x7e < name[i]) {
+            return 0;
+        }
+    }
+    return 1;
+}
+
+static int sized(const struct format *f, size_t len)
+{
+    return len % f->slot == 0 && 1 <= len / f->slot && len / f->slot <= 64;
+}
+
+static size_t payload_len(const struct format *f, const uint8_t *s)
+{
+    return f == &KV ? number(s + 2, 2) : f->payload_len;
+}
+
+static int slot_valid(const struct format *f, const uint8_t *s)
+{
+    size_t n;
+    if (s[0] == 0) {
+        return all_zero(s, f->slot);
+    }
+    n = payload_len(f, s);
+    return s[0] == 1 && s[1] <= 64 && good_name(s + f->name, s[1]) && n <= f->payload_len && all_zero(s + f->name + s[1], 64u - s[1]) &&
+           all_zero(s + f->payload + n, f->payload_len - n);
+}
+
+static size_t find(const struct format *f, const uint8_t *area, size_t len, const uint8_t *name, size_t name_len, size_t at)
+{
+    for (; at < len; at += f->slot) {
+        if (area[at] == 1 && area[at + 1] == name_len && memcmp(area + at + f->name, name, name_len) == 0) {
+            return at;
+        }
+    }
+    return len;
+}
+
+static int intact(const struct format *f, const uint8_t *area, size_t len)
+{
+    size_t at;
+    for (at = 0; at < len; at += f->slot) {
+        if (!slot_valid(f, area + at)) {
+            return 0;
+        }
+    }
+    for (at = 0; at < len; at += f->slot) {
+        if (area[at] == 1 && find(f, area, len, area + at + f->name, area[at + 1], at + f->slot) < len) {
+            return 0;
+        }
+    }
+    return 1;
+}
+
+static int good_flags(uint32_t flags)
+{
+    return flags < 16 && (!(flags & 8) || (flags & 4));
+}
+
+static int record_valid(const uint8_t *r, size_t len)
+{
+    return 36 <= len && number(r, 2) == 20 && number(r + 2, 2) == 1 && good_flags(number(r + 8, 4)) && number(r + 4, 4) <= 480 &&
+           len == number(r + 4, 4) + 36 && ((r[8] & 2) || all_zero(r + 12, 8)) && ((r[8] & 4) || all_zero(r + len - 16, 16));
+}
+
+/* The CMAC covers the name, then what stands before it in the record. */
+static void record_tag(const uint8_t *device_key, const uint8_t *name, size_t name_len, const uint8_t *r, size_t covered, uint8_t tag[16])
+{
+    uint8_t key[16], message[64 + 500];
+    plain_derive(device_key, (const uint8_t *)"AUTH", 4, name, name_len, key);
+    memcpy(message, name, name_len);
+    memcpy(message + name_len, r, covered);
+    plain_cmac(key, message, name_len + covered, tag);
+}
+
+static int same_tag(const uint8_t *a, const uint8_t *b)
+{
+    uint8_t diff = 0;
+    unsigned i;
+    for (i = 0; i < 16; i++) {
+        diff |= (uint8_t)(a[i] ^ b[i]);
+    }
+    return diff == 0;
+}
+
+static uint32_t judge(const uint8_t *r, size_t len, const uint8_t *chip_tag, const uint8_t *device_key, const uint8_t *name, size_t name_len)
+{
+    uint8_t tag[16];
+    if (!record_valid(r, len)) {
+        return 8;
+    }
+    if (r[8] & 4) {
+        record_tag(device_key, name, name_len, r, len - 16, tag);
+        if (!same_tag(tag, r + len - 16)) {
+            return 11;
+        }
+    }
+    if ((r[8] & 8) && (chip_tag == NULL || !same_tag(chip_tag, r + len - 16))) {
+        return 12;
+    }
+    return 0;
+}
+
+static uint32_t guard(const uint8_t *kv, size_t kv_len, const uint8_t *rbp, size_t rbp_len, int lengths, const uint8_t *name, size_t name_len)
+{
+    if (!sized(&KV, kv_len) || !sized(&RBP, rbp_len) || !lengths) {
+        return 1;
+    }
+    if (!intact(&KV, kv, kv_len) || !intact(&RBP, rbp, rbp_len)) {
+        return 2;
+    }
+    return good_name(name, name_len) ? 0 : 3;
+}
+
+static void hand_out(const uint8_t *r, const uint8_t *device_key, const uint8_t *name, size_t name_len, size_t offset, uint8_t *output, size_t count)
+{
+    uint8_t key[16], data[480];
+    size_t size = number(r + 4, 4);
+    memcpy(data, r + 20, size);
+    if (r[8] & 2) {
+        plain_derive(device_key, (const uint8_t *)"ENC", 3, name, name_len, key);
+        plain_ctr(key, r + 12, data, size);
+    }
+    memcpy(output, data + offset, count);
+}
+
+uint32_t plain_get(const uint8_t *kv, size_t kv_len, const uint8_t *rbp, size_t rbp_len, const uint8_t *device_key, size_t device_key_len,
+                   const uint8_t *name, size_t name_len, size_t offset, uint8_t *output, size_t output_len, size_t *count)
+{
+    uint32_t status = guard(kv, kv_len, rbp, rbp_len, device_key_len == 16, name, name_len);
+    size_t at, entry, left;
+    const uint8_t *r;
+    *count = 0;
+    if (status != 0) {
+        return status;
+    }
+    at = find(&KV, kv, kv_len, name, name_len, 0);
+    entry = find(&RBP, rbp, rbp_len, name, name_len, 0);
+    if (at == kv_len) {
+        return entry < rbp_len ? 12 : 6;
+    }
+    r = kv + at + KV.payload;
+    status = judge(r, payload_len(&KV, kv + at), entry < rbp_len ? rbp + entry + RBP.payload : NULL, device_key, name, name_len);
+    if (status != 0) {
+        return status;
+    }
+    if (number(r + 4, 4) < offset) {
+        return 14;
+    }
+    left = number(r + 4, 4) - offset;
+    *count = output_len < left ? output_len : left;
+    hand_out(r, device_key, name, name_len, offset, output, *count);
+    return 0;
+}
+
+static size_t find_free(const struct format *f, const uint8_t *area, size_t len)
+{
+    size_t at = 0;
+    while (at < len && area[at] != 0) {
+        at += f->slot;
+    }
+    return at;
+}
+
+static uint32_t set_held(const uint8_t *kv, size_t kv_len, size_t at, int in_chip, uint32_t flags)
+{
+    const uint8_t *r;
+    if (at == kv_len) {
+        return (flags & 1) && in_chip ? 7 : 0;
+    }
+    r = kv + at + KV.payload;
+    if (!record_valid(r, payload_len(&KV, kv + at))) {
+        return 8;
+    }
+    if ((r[8] & 1) || (flags & 1)) {
+        return 7;
+    }
+    return number(r + 8, 4) == flags ? 0 : 9;
+}
+
+static void put_slot(const struct format *f, uint8_t *s, const uint8_t *name, size_t name_len, const uint8_t *payload, size_t len)
+{
+    memset(s, 0, f->slot);
+    s[0] = 1;
+    s[1] = (uint8_t)name_len;
+    if (f == &KV) {
+        s[2] = (uint8_t)len;
+        s[3] = (uint8_t)(len >> 8);
+    }
+    memcpy(s + f->name, name, name_len);
+    memcpy(s + f->payload, payload, len);
+}
+
+static void seal(uint8_t r[516], const uint8_t *device_key, const uint8_t *name, size_t name_len, uint32_t flags, const uint8_t *iv, const uint8_t *data,
+                 size_t data_len)
+{
+    uint8_t key[16];
+    r[0] = 20;
+    r[2] = 1;
+    r[4] = (uint8_t)data_len;
+    r[5] = (uint8_t)(data_len >> 8);
+    r[8] = (uint8_t)flags;
+    memcpy(r + 20, data, data_len);
+    if (flags & 2) {
+        memcpy(r + 12, iv, 8);
+        plain_derive(device_key, (const uint8_t *)"ENC", 3, name, name_len, key);
+        plain_ctr(key, iv, r + 20, data_len);
+    }
+    if (flags & 4) {
+        record_tag(device_key, name, name_len, r, 20 + data_len, r + 20 + data_len);
+    }
+}
+
+uint32_t plain_set(uint8_t *kv, size_t kv_len, uint8_t *rbp, size_t rbp_len, const uint8_t *device_key, size_t device_key_len, const uint8_t *name,
+                   size_t name_len, uint32_t flags, const uint8_t *iv, size_t iv_len, const uint8_t *data, size_t data_len)
+{
+    uint8_t r[516] = {0};
+    size_t at, entry;
+    uint32_t status = guard(kv, kv_len, rbp, rbp_len, device_key_len == 16 && iv_len == 8, name, name_len);
+    if (status != 0) {
+        return status;
+    }
+    if (!good_flags(flags)) {
+        return 4;
+    }
+    if (480 < data_len) {
+        return 5;
+    }
+    at = find(&KV, kv, kv_len, name, name_len, 0);
+    entry = find(&RBP, rbp, rbp_len, name, name_len, 0);
+    status = set_held(kv, kv_len, at, entry < rbp_len, flags);
+    if (status != 0) {
+        return status;
+    }
+    at = at < kv_len ? at : find_free(&KV, kv, kv_len);
+    entry = entry < rbp_len ? entry : find_free(&RBP, rbp, rbp_len);
+    if (at == kv_len || ((flags & 8) && entry == rbp_len)) {
+        return 10;
+    }
+    seal(r, device_key, name, name_len, flags, iv, data, data_len);
+    put_slot(&KV, kv + at, name, name_len, r, 36 + data_len);
+    if (flags & 8) {
+        put_slot(&RBP, rbp + entry, name, name_len, r + 20 + data_len, 16);
+    }
+    return 0;
+}
