@@ -281,10 +281,52 @@ static void growth(void)
     print_growth("set", all + n);
 }
 
+/* ---- where the time of a get on 64 names goes */
+
+/* Names of 64 lengths differ in their length, so that no two of them are compared byte by byte. */
+static void set_lengths(const struct box *b)
+{
+    uint8_t name[64];
+    size_t i;
+    memset(name, 'n', sizeof name);
+    memset(b->kv, 0, b->slots * 584);
+    memset(b->rbp, 0, b->slots * 82);
+    for (i = 1; i <= b->slots; i++) {
+        must(b->store->set(b->kv, b->slots * 584, b->rbp, b->slots * 82, KEY, 16, name, i, 14, IV, 8, data, sizeof data) == 0, "set", b->store->name);
+    }
+}
+
+/* The tests on card and chip alone: a walk that finds no name. */
+static void work_tests(const void *of)
+{
+    const struct box *b = (const struct box *)of;
+    uint8_t name[64];
+    size_t len, next;
+    securestore_iterator_next(b->kv, b->slots * 584, b->rbp, b->slots * 82, (const uint8_t *)"~", 1, 0, name, sizeof name, &len, &next);
+}
+
+static void parts(void)
+{
+    struct box one = fill(&STORES[1], 1), same = fill(&STORES[1], 64), other = fill(&STORES[1], 64);
+    struct measure all[4] = {{work_get, NULL, 1, 0}, {work_tests, NULL, 1, 0}, {work_tests, NULL, 1, 0}, {work_tests, NULL, 1, 0}};
+    set_lengths(&other);
+    all[0].of = &same;
+    all[1].of = &same;
+    all[2].of = &other;
+    all[3].of = &one;
+    run(all, 4, 2000);
+    printf("| part of a securestore get of 480 bytes on 64 names | microseconds |\n|---|---|\n");
+    printf("| all of it | %.1f |\n", all[0].best * 1e6);
+    printf("| no two slots hold one name, beyond comparing lengths | %.1f |\n", (all[1].best - all[2].best) * 1e6);
+    printf("| the other tests on card and chip | %.1f |\n", all[2].best * 1e6);
+    printf("| finding, judging and decrypting the record | %.1f |\n\n", (all[0].best - all[1].best) * 1e6);
+}
+
 int main(void)
 {
     peers_start();
     ciphers();
     growth();
+    parts();
     return 0;
 }
