@@ -34,7 +34,7 @@
 #define SECURESTORE_ERR_NO_SPACE 10u      /* no free slot on the card or in the chip */
 #define SECURESTORE_ERR_AUTHENTICATION 11u /* the record's CMAC is wrong */
 #define SECURESTORE_ERR_ROLLBACK 12u      /* the chip knows another record of this name: the card is old or was changed */
-#define SECURESTORE_ERR_INVALID_KEY_FILE 13u
+#define SECURESTORE_ERR_INVALID_KEY_FILE 13u /* not a key file, or more material than one holds */
 #define SECURESTORE_ERR_OFFSET 14u        /* the offset lies beyond the data */
 
 /* Flags of a record. */
@@ -53,6 +53,10 @@
 #define SECURESTORE_BLOCK_SIZE 16u
 #define SECURESTORE_NAME_MAX 64u /* a name has 1 to 64 bytes, each 0x21 to 0x7e */
 #define SECURESTORE_DATA_MAX 480u
+#define SECURESTORE_KEY_ID_MIN 1u
+#define SECURESTORE_KEY_ID_MAX 0xfffeffffu
+#define SECURESTORE_KEY_FILE_MAX 480u /* a header of 36 bytes, then the material */
+#define SECURESTORE_KEY_MATERIAL_MAX 444u
 
 #ifdef __cplusplus
 extern "C" {
@@ -92,6 +96,24 @@ uint32_t securestore_reset(uint8_t *kv, size_t kv_len, uint8_t *rbp, size_t rbp_
 uint32_t securestore_iterator_next(const uint8_t *kv, size_t kv_len, const uint8_t *rbp, size_t rbp_len, const uint8_t *prefix,
                                    size_t prefix_len, size_t start_slot, uint8_t *name_buf, size_t name_buf_len, size_t *name_len,
                                    size_t *next_slot);
+
+/* PSA key files. The five attributes are carried and not judged. */
+
+/* Writes a key file to the front of key_buf, the rest of it is as before; *count is the file's length.
+ * Tests: 1 key_buf under 480, 13 material over 444. */
+uint32_t securestore_format_key_file(uint32_t lifetime, uint32_t key_type, uint32_t usage, uint32_t alg, uint32_t enrollment_alg,
+                                     const uint8_t *material, size_t material_len, uint8_t *key_buf, size_t key_buf_len, size_t *count);
+
+/* Stores a key file under a key's identifier, 1 to 0xfffeffff: its name is the identifier as 16 lower-case hex digits.
+ * Tests: 13 material over 444, then those of a set; a bad identifier is 3. */
+uint32_t securestore_save_key(uint8_t *kv, size_t kv_len, uint8_t *rbp, size_t rbp_len, const uint8_t *device_key, size_t device_key_len,
+                              uint32_t key_id, uint32_t lifetime, uint32_t key_type, uint32_t usage, uint32_t alg, uint32_t enrollment_alg,
+                              const uint8_t *material, size_t material_len, uint32_t flags, const uint8_t *iv, size_t iv_len);
+
+/* Reads a key's file to the front of key_buf, the rest of it is as before; *count is the file's length. What is no key file is not handed out.
+ * Tests: 1 lengths (key_buf of at least 480), then those of a get at offset 0; a bad identifier is 3; 13 not a key file. */
+uint32_t securestore_load_key(const uint8_t *kv, size_t kv_len, const uint8_t *rbp, size_t rbp_len, const uint8_t *device_key,
+                              size_t device_key_len, uint32_t key_id, uint8_t *key_buf, size_t key_buf_len, size_t *count);
 
 /* The ciphers below have no refusal. */
 

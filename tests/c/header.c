@@ -161,6 +161,54 @@ static void test_remove_and_reset(void)
     expect(securestore_reset(kv, sizeof kv, rbp, sizeof rbp) == SECURESTORE_OK && memcmp(kv, zeros, sizeof kv) == 0, "reset: card cleared");
 }
 
+/* "PSA\0KEY\0", version 0, five attributes, a length, the material. */
+static const uint8_t KEY_FILE[40] = {'P', 'S', 'A', 0, 'K', 'E', 'Y', 0, 0, 0, 0, 0, 1, 0, 0, 0, 0, 0x24, 0, 0,
+                                     3, 0, 0, 0, 4, 0, 0x10, 6, 5, 0, 0, 0, 4, 0, 0, 0, 0xca, 0xfe, 0xba, 0xbe};
+
+static void test_format_key_file(void)
+{
+    uint8_t key_buf[SECURESTORE_KEY_FILE_MAX];
+    size_t count = 99;
+    memset(key_buf, 0xee, sizeof key_buf);
+    expect(securestore_format_key_file(1, 0x2400, 3, 0x06100004, 5, KEY_FILE + 36, 4, key_buf, sizeof key_buf, &count) == SECURESTORE_OK,
+           "format_key_file: status");
+    expect(count == 40 && memcmp(key_buf, KEY_FILE, 40) == 0 && key_buf[40] == 0xee, "format_key_file: bytes");
+    expect(securestore_format_key_file(1, 0x2400, 3, 0x06100004, 5, KEY_FILE + 36, 4, key_buf, 479, &count) == SECURESTORE_ERR_LENGTH && count == 0,
+           "format_key_file: key buffer of 479");
+    count = 99;
+    expect(securestore_format_key_file(0, 0, 0, 0, 0, kv, 445, key_buf, sizeof key_buf, &count) == SECURESTORE_ERR_INVALID_KEY_FILE && count == 0,
+           "format_key_file: material of 445");
+}
+
+static uint32_t save_key(uint32_t key_id)
+{
+    return securestore_save_key(kv, sizeof kv, rbp, sizeof rbp, KEY, sizeof KEY, key_id, 1, 0x2400, 3, 0x06100004, 5, KEY_FILE + 36, 4, 14, IV, sizeof IV);
+}
+
+static uint32_t load_key(uint32_t key_id, uint8_t *key_buf, size_t key_buf_len, size_t *count)
+{
+    return securestore_load_key(kv, sizeof kv, rbp, sizeof rbp, KEY, sizeof KEY, key_id, key_buf, key_buf_len, count);
+}
+
+static void test_keys(void)
+{
+    uint8_t key_buf[SECURESTORE_KEY_FILE_MAX], output[40];
+    size_t count = 99;
+    memset(key_buf, 0xee, sizeof key_buf);
+    expect(save_key(42) == SECURESTORE_OK, "save_key: status");
+    expect(memcmp(kv + 4, "000000000000002a", 16) == 0, "save_key: key 42's name");
+    expect(save_key(0) == SECURESTORE_ERR_INVALID_NAME, "save_key: no key 0");
+    expect(load_key(42, key_buf, sizeof key_buf, &count) == SECURESTORE_OK, "load_key: status");
+    expect(count == 40 && memcmp(key_buf, KEY_FILE, 40) == 0 && key_buf[40] == 0xee, "load_key: bytes");
+    expect(load_key(43, key_buf, sizeof key_buf, &count) == SECURESTORE_ERR_NOT_FOUND && count == 0, "load_key: another key");
+    count = 99;
+    expect(load_key(42, key_buf, 479, &count) == SECURESTORE_ERR_LENGTH && count == 0, "load_key: key buffer of 479");
+    expect(securestore_get(kv, sizeof kv, rbp, sizeof rbp, KEY, sizeof KEY, (const uint8_t *)"000000000000002a", 16, 0, output, sizeof output, &count) ==
+                   SECURESTORE_OK &&
+               count == 40 && memcmp(output, KEY_FILE, 40) == 0,
+           "get: key 42's file by its name");
+}
+
 int main(void)
 {
     test_aes();
@@ -175,6 +223,8 @@ int main(void)
     test_get_info();
     test_iterator_next();
     test_remove_and_reset();
+    test_format_key_file();
+    test_keys();
     printf("%u passed, %u failed\n", passed, failed);
     return failed != 0;
 }

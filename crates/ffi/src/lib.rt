@@ -1,4 +1,4 @@
-// The library that firmware links: each call of the store and of the cipher under C's calling convention.
+// The library that firmware links: each call of the store, of the key files and of the cipher under C's calling convention.
 //
 // A slice is a pointer and a length. The proofs assume of every lent slice and of every lent number what Rattle's own callers ensure, so a C caller must:
 // - pass no null pointer, also where the length is 0;
@@ -8,4 +8,5 @@
 // - not use what is lent from another thread or an interrupt while the call runs.
 // Nothing else is assumed: every other argument has an answer.
 pub mod cipher_calls;
+pub mod key_calls;
 pub mod store_calls;

@@ -1,0 +1,75 @@
+// PSA key files. A key's attributes are five numbers, since C's structs have no form here.
+use keys::format;
+use keys::key_file::KeyAttributes;
+use keys::persist;
+ghost use mathlib.Core.Path.{_≡_};
+ghost use Rattle.keys.specs.Calls as Keys;
+ghost use Rattle.ffi.specs.Answers.{written, got, attributes};
+
+#[no_mangle]
+pub extern "C" fn securestore_format_key_file(
+    lifetime: u32,
+    key_type: u32,
+    usage: u32,
+    alg: u32,
+    enrollment_alg: u32,
+    material: &[u8],
+    key_buf: &mut [u8],
+    count: &mut usize,
+) -> u32
+    ensures { λ r. ⌜ got r (now (count .exit)) (now («key_buf» .exit)) ≡ Keys.writeKeyFile (attributes lifetime «key_type» usage alg «enrollment_alg») (now (material .entry)) (now («key_buf» .entry)) ⌝ }
+{
+    let attributes = KeyAttributes {
+        lifetime,
+        key_type,
+        usage,
+        alg,
+        enrollment_alg,
+    };
+    let answer = format::format_key_file(attributes, material, key_buf);
+    *count = answer.count;
+    answer.status
+}
+
+#[no_mangle]
+pub extern "C" fn securestore_save_key(
+    kv: &mut [u8],
+    rbp: &mut [u8],
+    device_key: &[u8],
+    key_id: u32,
+    lifetime: u32,
+    key_type: u32,
+    usage: u32,
+    alg: u32,
+    enrollment_alg: u32,
+    material: &[u8],
+    flags: u32,
+    iv: &[u8],
+) -> u32
+    ensures { λ r. ⌜ written r (now (kv .exit)) (now (rbp .exit)) ≡ Keys.saveKey (now (kv .entry)) (now (rbp .entry)) (now («device_key» .entry)) «key_id» (attributes lifetime «key_type» usage alg «enrollment_alg») (now (material .entry)) flags (now (iv .entry)) ⌝ }
+{
+    let attributes = KeyAttributes {
+        lifetime,
+        key_type,
+        usage,
+        alg,
+        enrollment_alg,
+    };
+    persist::save_persistent_key(kv, rbp, device_key, key_id, attributes, material, flags, iv)
+}
+
+#[no_mangle]
+pub extern "C" fn securestore_load_key(
+    kv: &[u8],
+    rbp: &[u8],
+    device_key: &[u8],
+    key_id: u32,
+    key_buf: &mut [u8],
+    count: &mut usize,
+) -> u32
+    ensures { λ r. ⌜ got r (now (count .exit)) (now («key_buf» .exit)) ≡ Keys.loadKey (now (kv .entry)) (now (rbp .entry)) (now («device_key» .entry)) «key_id» (now («key_buf» .entry)) ⌝ }
+{
+    let answer = persist::load_persistent_key(kv, rbp, device_key, key_id, key_buf);
+    *count = answer.count;
+    answer.status
+}
