@@ -1,0 +1,22 @@
+//! Names the product's static library to the linker, for the driver only: the
+//! reference and its own tests build without it.
+
+use std::env;
+use std::path::PathBuf;
+
+/// The library file is `lib{LIBRARY}.a`.
+const LIBRARY: &str = "ffi";
+const DEFAULT_DIR: &str = "../target/staticlib";
+
+fn main() {
+    println!("cargo:rerun-if-env-changed=SECURESTORE_LIB_DIR");
+    let dir = env::var("SECURESTORE_LIB_DIR").unwrap_or_else(|_| DEFAULT_DIR.into());
+    let root = PathBuf::from(env::var("CARGO_MANIFEST_DIR").expect("set by cargo"));
+    let dir = root.join(dir);
+    println!(
+        "cargo:rerun-if-changed={}",
+        dir.join(format!("lib{LIBRARY}.a")).display()
+    );
+    println!("cargo:rustc-link-arg-bins=-L{}", dir.display());
+    println!("cargo:rustc-link-arg-bins=-l{LIBRARY}");
+}

@@ -1,0 +1,69 @@
+//! Why a call refuses, and what it answers.
+
+/// One test of 01 that can be the first to fail. Several share a number.
+#[derive(Clone, Copy, Debug, PartialEq, Eq, PartialOrd, Ord)]
+pub enum Why {
+    CardLength,
+    ChipLength,
+    DeviceKeyLength,
+    IvLength,
+    NameBufferLength,
+    KeyBufferLength,
+    CardDamaged,
+    ChipDamaged,
+    BadName,
+    BadPrefix,
+    BadIdentifier,
+    BadFlags,
+    DataTooLong,
+    NotFound,
+    OldWriteOnce,
+    NewWriteOnce,
+    WriteOnceOnChip,
+    NotWellFormed,
+    FlagsDiffer,
+    NoPlace,
+    NoEntry,
+    CmacWrong,
+    GoneFromCard,
+    EntryAbsent,
+    EntryDiffers,
+    MaterialTooLong,
+    NotAKeyFile,
+    OffsetBeyondData,
+}
+
+impl Why {
+    /// The number of 01's table.
+    pub fn number(self) -> u32 {
+        use Why::*;
+        match self {
+            CardLength | ChipLength | DeviceKeyLength | IvLength | NameBufferLength
+            | KeyBufferLength => 1,
+            CardDamaged | ChipDamaged => 2,
+            BadName | BadPrefix | BadIdentifier => 3,
+            BadFlags => 4,
+            DataTooLong => 5,
+            NotFound => 6,
+            OldWriteOnce | NewWriteOnce | WriteOnceOnChip => 7,
+            NotWellFormed => 8,
+            FlagsDiffer => 9,
+            NoPlace | NoEntry => 10,
+            CmacWrong => 11,
+            GoneFromCard | EntryAbsent | EntryDiffers => 12,
+            MaterialTooLong | NotAKeyFile => 13,
+            OffsetBeyondData => 14,
+        }
+    }
+}
+
+/// What a call leaves: its number, its returned numbers (0 where it has none),
+/// and every byte of the buffers it may write.
+#[derive(Clone, Debug, PartialEq, Eq)]
+pub struct Answer {
+    pub number: u32,
+    pub returned: [u64; 2],
+    pub card: Vec<u8>,
+    pub chip: Vec<u8>,
+    pub output: Vec<u8>,
+}

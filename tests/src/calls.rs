@@ -1,0 +1,364 @@
+//! Each call as a function from its arguments to its answer.
+//!
+//! Points that 01 leaves to the reader, and the reading used here:
+//!
+//! - "1 comes first" holds for all lent buffers of fixed length together: every
+//!   wrong length is told before any damage, whichever buffer it is in.
+//! - A name buffer or key buffer longer than 64 or 480 bytes is right: the table
+//!   says "under".
+//! - Keeping a key gives 13 before 1, since the order is given ("13 for the
+//!   material, then as set"). Its identifier is judged where set judges the name.
+//! - Loading a key fixes the key buffer's length, so that is judged with the
+//!   other 1s; the reading itself is a get at offset 0 of the whole record's data.
+//! - Writing a key file and keeping one judge no type or policy number.
+//! - A walk whose start place lies beyond the card has no used place from there
+//!   on: 6. The place after the last one is a right answer.
+
+use crate::aes::Block;
+use crate::answer::{Answer, Why};
+use crate::area::{self, good_name, name_bytes, Card, Chip, Entry, Place, Slot};
+use crate::ctr::Iv;
+use crate::keyfile::{key_name, Attributes, KeyFile};
+use crate::record::{Flags, Record, DATA_MAX};
+
+/// A call with its arguments, without card and chip.
+#[derive(Clone, Debug, PartialEq, Eq)]
+pub enum Call {
+    Set {
+        key: Vec<u8>,
+        name: Vec<u8>,
+        flags: u32,
+        iv: Vec<u8>,
+        data: Vec<u8>,
+    },
+    Get {
+        key: Vec<u8>,
+        name: Vec<u8>,
+        offset: usize,
+        output: Vec<u8>,
+    },
+    Info {
+        key: Vec<u8>,
+        name: Vec<u8>,
+    },
+    Remove {
+        name: Vec<u8>,
+    },
+    Reset,
+    Walk {
+        prefix: Vec<u8>,
+        start: usize,
+        name_buffer: Vec<u8>,
+    },
+    WriteKeyFile {
+        attributes: Attributes,
+        material: Vec<u8>,
+        key_buffer: Vec<u8>,
+    },
+    KeepKey {
+        key: Vec<u8>,
+        identifier: u32,
+        attributes: Attributes,
+        material: Vec<u8>,
+        flags: u32,
+        iv: Vec<u8>,
+    },
+    LoadKey {
+        key: Vec<u8>,
+        identifier: u32,
+        key_buffer: Vec<u8>,
+    },
+}
+
+impl Call {
+    pub const KINDS: [&'static str; 9] = [
+        "set", "get", "info", "remove", "reset", "walk", "write", "keep", "load",
+    ];
+
+    pub fn kind(&self) -> usize {
+        match self {
+            Call::Set { .. } => 0,
+            Call::Get { .. } => 1,
+            Call::Info { .. } => 2,
+            Call::Remove { .. } => 3,
+            Call::Reset => 4,
+            Call::Walk { .. } => 5,
+            Call::WriteKeyFile { .. } => 6,
+            Call::KeepKey { .. } => 7,
+            Call::LoadKey { .. } => 8,
+        }
+    }
+
+    /// The lent buffer that the call writes its result to.
+    pub fn output(&self) -> &[u8] {
+        match self {
+            Call::Get { output, .. } => output,
+            Call::Walk { name_buffer, .. } => name_buffer,
+            Call::WriteKeyFile { key_buffer, .. } | Call::LoadKey { key_buffer, .. } => key_buffer,
+            _ => &[],
+        }
+    }
+}
+
+/// What a done call returns and changes; `None` leaves a buffer as lent.
+#[derive(Default)]
+struct Done {
+    returned: [u64; 2],
+    card: Option<Vec<u8>>,
+    chip: Option<Vec<u8>>,
+    output: Option<Vec<u8>>,
+}
+
+type Outcome = Result<Done, Why>;
+
+/// The call's answer on this card and chip, and the test that refused it. A
+/// refusal returns zeros and every buffer as lent.
+pub fn answer(card: &[u8], chip: &[u8], call: &Call) -> (Answer, Option<Why>) {
+    let (done, why) = match run(card, chip, call) {
+        Ok(done) => (done, None),
+        Err(why) => (Done::default(), Some(why)),
+    };
+    let answer = Answer {
+        number: why.map_or(0, Why::number),
+        returned: done.returned,
+        card: done.card.unwrap_or_else(|| card.to_vec()),
+        chip: done.chip.unwrap_or_else(|| chip.to_vec()),
+        output: done.output.unwrap_or_else(|| call.output().to_vec()),
+    };
+    (answer, why)
+}
+
+fn run(card: &[u8], chip: &[u8], call: &Call) -> Outcome {
+    match call {
+        Call::Set {
+            key,
+            name,
+            flags,
+            iv,
+            data,
+        } => set(card, chip, key, Some(name), *flags, iv, data),
+        Call::Get {
+            key,
+            name,
+            offset,
+            output,
+        } => get(card, chip, key, name, *offset, output),
+        Call::Info { key, name } => info(card, chip, key, name),
+        Call::Remove { name } => remove(card, chip, name),
+        Call::Reset => reset(card, chip),
+        Call::Walk {
+            prefix,
+            start,
+            name_buffer,
+        } => walk(card, chip, prefix, *start, name_buffer),
+        Call::WriteKeyFile {
+            attributes,
+            material,
+            key_buffer,
+        } => write_key_file(*attributes, material, key_buffer),
+        Call::KeepKey {
+            key,
+            identifier,
+            attributes,
+            material,
+            flags,
+            iv,
+        } => {
+            let file = KeyFile::new(*attributes, material).ok_or(Why::MaterialTooLong)?;
+            let name = key_name(*identifier);
+            set(card, chip, key, name.as_deref(), *flags, iv, &file.encode())
+        }
+        Call::LoadKey {
+            key,
+            identifier,
+            key_buffer,
+        } => load_key(card, chip, key, *identifier, key_buffer),
+    }
+}
+
+pub fn device_key(bytes: &[u8]) -> Result<Block, Why> {
+    bytes.try_into().map_err(|_| Why::DeviceKeyLength)
+}
+
+pub fn lent_iv(bytes: &[u8]) -> Result<Iv, Why> {
+    bytes.try_into().map_err(|_| Why::IvLength)
+}
+
+fn check(good: bool, why: Why) -> Result<(), Why> {
+    if good {
+        Ok(())
+    } else {
+        Err(why)
+    }
+}
+
+/// No name stands for a key identifier out of range.
+fn set(
+    card: &[u8],
+    chip: &[u8],
+    key: &[u8],
+    name: Option<&[u8]>,
+    flags: u32,
+    iv: &[u8],
+    data: &[u8],
+) -> Outcome {
+    area::test_lengths(card, chip)?;
+    let (key, iv) = (device_key(key)?, lent_iv(iv)?);
+    let (mut card, mut chip) = area::decode(card, chip)?;
+    let name = name.ok_or(Why::BadIdentifier)?;
+    check(good_name(name), Why::BadName)?;
+    let flags = Flags::accept(flags).ok_or(Why::BadFlags)?;
+    check(data.len() <= DATA_MAX, Why::DataTooLong)?;
+
+    let (place, entry) = (card.find(name), chip.find(name));
+    match place {
+        Some(place) => {
+            let old = Record::decode(&place.record).ok_or(Why::NotWellFormed)?;
+            check(!old.flags.write_once(), Why::OldWriteOnce)?;
+            check(!flags.write_once(), Why::NewWriteOnce)?;
+            check(old.flags == flags, Why::FlagsDiffer)?;
+        }
+        None => check(!flags.write_once() || entry.is_none(), Why::WriteOnceOnChip)?,
+    }
+    check(place.is_some() || card.has_free(), Why::NoPlace)?;
+    check(
+        !flags.replay_protection() || entry.is_some() || chip.has_free(),
+        Why::NoEntry,
+    )?;
+
+    let record = Record::seal(&key, name, flags, &iv, data);
+    card.put(Place {
+        name: name.to_vec(),
+        record: record.encode(),
+    });
+    if flags.replay_protection() {
+        chip.put(Entry {
+            name: name.to_vec(),
+            cmac: record.cmac,
+        });
+    }
+    Ok(Done {
+        card: Some(card.encode()),
+        chip: Some(chip.encode()),
+        ..Done::default()
+    })
+}
+
+/// The record that a get may read: all its tests but the offset's.
+fn readable(card: &Card, chip: &Chip, key: &Block, name: &[u8]) -> Result<Record, Why> {
+    let entry = chip.find(name);
+    let Some(place) = card.find(name) else {
+        return Err(match entry {
+            Some(_) => Why::GoneFromCard,
+            None => Why::NotFound,
+        });
+    };
+    let record = Record::decode(&place.record).ok_or(Why::NotWellFormed)?;
+    check(record.authentic(key, name), Why::CmacWrong)?;
+    if record.flags.replay_protection() {
+        let entry = entry.ok_or(Why::EntryAbsent)?;
+        check(entry.cmac == record.cmac, Why::EntryDiffers)?;
+    }
+    Ok(record)
+}
+
+fn get(card: &[u8], chip: &[u8], key: &[u8], name: &[u8], offset: usize, output: &[u8]) -> Outcome {
+    area::test_lengths(card, chip)?;
+    let key = device_key(key)?;
+    let (card, chip) = area::decode(card, chip)?;
+    check(good_name(name), Why::BadName)?;
+    let record = readable(&card, &chip, &key, name)?;
+    let data = record.data(&key, name);
+    let rest = data.get(offset..).ok_or(Why::OffsetBeyondData)?;
+    let count = rest.len().min(output.len());
+    Ok(Done {
+        returned: [count as u64, 0],
+        output: Some(with_front(output, &rest[..count])),
+        ..Done::default()
+    })
+}
+
+/// The buffer with these bytes at its front, the rest as before.
+pub fn with_front(buffer: &[u8], front: &[u8]) -> Vec<u8> {
+    [front, &buffer[front.len()..]].concat()
+}
+
+fn info(card: &[u8], chip: &[u8], key: &[u8], name: &[u8]) -> Outcome {
+    area::test_lengths(card, chip)?;
+    let key = device_key(key)?;
+    let (card, chip) = area::decode(card, chip)?;
+    check(good_name(name), Why::BadName)?;
+    let record = readable(&card, &chip, &key, name)?;
+    Ok(Done {
+        returned: [record.data_size().into(), record.flags.bits().into()],
+        ..Done::default()
+    })
+}
+
+fn remove(card: &[u8], chip: &[u8], name: &[u8]) -> Outcome {
+    area::test_lengths(card, chip)?;
+    let (mut card, mut chip) = area::decode(card, chip)?;
+    check(good_name(name), Why::BadName)?;
+    let place = card.find(name).ok_or(Why::NotFound)?;
+    let record = Record::decode(&place.record).ok_or(Why::NotWellFormed)?;
+    check(!record.flags.write_once(), Why::OldWriteOnce)?;
+    card.take_out(name);
+    if record.flags.replay_protection() {
+        chip.take_out(name);
+    }
+    Ok(Done {
+        card: Some(card.encode()),
+        chip: Some(chip.encode()),
+        ..Done::default()
+    })
+}
+
+fn reset(card: &[u8], chip: &[u8]) -> Outcome {
+    area::test_lengths(card, chip)?;
+    Ok(Done {
+        card: Some(vec![0; card.len()]),
+        chip: Some(vec![0; chip.len()]),
+        ..Done::default()
+    })
+}
+
+fn walk(card: &[u8], chip: &[u8], prefix: &[u8], start: usize, name_buffer: &[u8]) -> Outcome {
+    area::test_lengths(card, chip)?;
+    check(name_buffer.len() >= area::NAME_MAX, Why::NameBufferLength)?;
+    let (card, _) = area::decode(card, chip)?;
+    check(name_bytes(prefix), Why::BadPrefix)?;
+    let (at, place) = card
+        .used()
+        .find(|(at, place)| *at >= start && place.name().starts_with(prefix))
+        .ok_or(Why::NotFound)?;
+    Ok(Done {
+        returned: [place.name.len() as u64, at as u64 + 1],
+        output: Some(with_front(name_buffer, &place.name)),
+        ..Done::default()
+    })
+}
+
+fn write_key_file(attributes: Attributes, material: &[u8], key_buffer: &[u8]) -> Outcome {
+    check(key_buffer.len() >= DATA_MAX, Why::KeyBufferLength)?;
+    let file = KeyFile::new(attributes, material).ok_or(Why::MaterialTooLong)?;
+    Ok(file_at_front(key_buffer, &file.encode()))
+}
+
+fn load_key(card: &[u8], chip: &[u8], key: &[u8], identifier: u32, key_buffer: &[u8]) -> Outcome {
+    area::test_lengths(card, chip)?;
+    let key = device_key(key)?;
+    check(key_buffer.len() >= DATA_MAX, Why::KeyBufferLength)?;
+    let (card, chip) = area::decode(card, chip)?;
+    let name = key_name(identifier).ok_or(Why::BadIdentifier)?;
+    let file = readable(&card, &chip, &key, &name)?.data(&key, &name);
+    KeyFile::decode(&file).ok_or(Why::NotAKeyFile)?;
+    Ok(file_at_front(key_buffer, &file))
+}
+
+fn file_at_front(key_buffer: &[u8], file: &[u8]) -> Done {
+    Done {
+        returned: [file.len() as u64, 0],
+        output: Some(with_front(key_buffer, file)),
+        ..Done::default()
+    }
+}

@@ -1,0 +1,15 @@
+//! A second implementation of the secure store, written from paper 01 and the
+//! standards alone, and the stories that try the product against it.
+
+pub mod aes;
+pub mod answer;
+pub mod area;
+pub mod book;
+pub mod calls;
+pub mod cmac;
+pub mod ctr;
+pub mod kdf;
+pub mod keyfile;
+pub mod record;
+pub mod rng;
+pub mod vectors;
