@@ -1,0 +1,55 @@
+//! What is tried: the product's library, or in the self-tests another store.
+
+use crate::aes::Block;
+use crate::answer::Answer;
+use crate::calls::Call;
+use crate::ctr::Iv;
+
+/// What a call was seen to do.
+#[derive(Clone, Debug)]
+pub struct Observed {
+    pub answer: Answer,
+    /// Writes to where the call may not write.
+    pub strays: Vec<String>,
+}
+
+/// A cipher's result, or the stray write that was seen.
+pub type Seen<T> = Result<T, String>;
+
+pub trait Library: Sync {
+    fn call(&self, card: &[u8], chip: &[u8], call: &Call) -> Observed;
+    fn aes(&self, key: &Block, block: &Block) -> Seen<Block>;
+    fn cmac(&self, key: &Block, message: &[u8]) -> Seen<Block>;
+    fn ctr(&self, key: &Block, iv: &Iv, data: &[u8]) -> Seen<Vec<u8>>;
+    fn derive(&self, key: &Block, prefix: &[u8], name: &[u8]) -> Seen<Block>;
+}
+
+/// The reference in the library's place.
+#[cfg(test)]
+pub struct Reference;
+
+#[cfg(test)]
+impl Library for Reference {
+    fn call(&self, card: &[u8], chip: &[u8], call: &Call) -> Observed {
+        Observed {
+            answer: crate::calls::answer(card, chip, call).0,
+            strays: Vec::new(),
+        }
+    }
+
+    fn aes(&self, key: &Block, block: &Block) -> Seen<Block> {
+        Ok(crate::aes::Aes128::new(key).encrypt(block))
+    }
+
+    fn cmac(&self, key: &Block, message: &[u8]) -> Seen<Block> {
+        Ok(crate::cmac::cmac(key, message))
+    }
+
+    fn ctr(&self, key: &Block, iv: &Iv, data: &[u8]) -> Seen<Vec<u8>> {
+        Ok(crate::ctr::ctr(key, iv, data))
+    }
+
+    fn derive(&self, key: &Block, prefix: &[u8], name: &[u8]) -> Seen<Block> {
+        Ok(crate::kdf::derive(key, prefix, name))
+    }
+}

@@ -1,0 +1,311 @@
+//! Demand 3: two lists of calls that share no name, merged and run on one card
+//! and chip, answer as each list's own book does.
+//!
+//! Room: 01 counts "a name set", accepted or refused, once. The starts here have
+//! a place for each name that the card holds or that is set, and an entry for
+//! each that the chip holds or that is set: the tightest start from which no
+//! merge can meet 10, so no reading of the premise asks for less.
+
+use std::collections::BTreeSet;
+
+use crate::area::{good_name, Area, Card, Chip, Slot, ENTRY, PLACE};
+use crate::book::{Answer, Book, Contents};
+use crate::calls::{self, Call};
+use crate::generator::{self, Cast};
+use crate::library::Library;
+use crate::record::Record;
+use crate::rng::Rng;
+use crate::show;
+use crate::shrink::{drop_parts, shorten_area};
+use crate::stories::Tally;
+
+/// A merge: each call with the list it comes from.
+#[derive(Clone)]
+pub struct Merge {
+    card: Vec<u8>,
+    chip: Vec<u8>,
+    calls: Vec<(usize, Call)>,
+}
+
+fn name_of(call: &Call) -> &[u8] {
+    match call {
+        Call::Set { name, .. }
+        | Call::Get { name, .. }
+        | Call::Info { name, .. }
+        | Call::Remove { name } => name,
+        _ => panic!("no call of demand 3"),
+    }
+}
+
+pub fn merge(mut rng: Rng) -> Merge {
+    let cast = Cast::new(&mut rng);
+    let (card, chip) = generator::sound_start(&mut rng, &cast, 24, 24);
+    let sides = sides(&mut rng, &cast);
+    // Each list is made along its own book, so that its calls suit it.
+    let start = Book::of(&card, &chip);
+    let lists = sides.map(|names| list(&mut rng, &cast, &names, start.clone()));
+    let calls = shuffle(&mut rng, lists);
+    let set: BTreeSet<&[u8]> = calls
+        .iter()
+        .filter(|(_, call)| matches!(call, Call::Set { .. }))
+        .map(|(_, call)| name_of(call))
+        .filter(|name| good_name(name))
+        .collect();
+    Merge {
+        card: with_room(&mut rng, card, &set).encode(),
+        chip: with_room(&mut rng, chip, &set).encode(),
+        calls,
+    }
+}
+
+/// The names of each list: parted, bad ones too.
+fn sides(rng: &mut Rng, cast: &Cast) -> [Vec<Vec<u8>>; 2] {
+    let bad: BTreeSet<Vec<u8>> = (0..2).map(|_| generator::hostile_name(rng)).collect();
+    let mut sides = [Vec::new(), Vec::new()];
+    for name in cast.names.iter().cloned().chain(bad) {
+        sides[rng.below(2)].push(name);
+    }
+    sides
+}
+
+fn list(rng: &mut Rng, cast: &Cast, names: &[Vec<u8>], mut book: Book) -> Vec<Call> {
+    if names.is_empty() {
+        return Vec::new();
+    }
+    let good: Vec<Vec<u8>> = names
+        .iter()
+        .filter(|name| good_name(name))
+        .cloned()
+        .collect();
+    (0..rng.below(25))
+        .map(|_| {
+            let from = if good.is_empty() || rng.percent(10) {
+                names
+            } else {
+                &good
+            };
+            let name = rng.pick(from);
+            let call = list_call(rng, cast, name, &book);
+            book.step(&call);
+            call
+        })
+        .collect()
+}
+
+fn list_call(rng: &mut Rng, cast: &Cast, name: Vec<u8>, book: &Book) -> Call {
+    let key = match rng.below(40) {
+        0 => rng.bytes(15),
+        1 => rng.bytes(17),
+        2 | 3 => cast.other_key.to_vec(),
+        _ => cast.key.to_vec(),
+    };
+    let old = book.contents(&name).record;
+    let old = old.and_then(|record| Record::decode(&record));
+    match rng.below(10) {
+        0..=4 => {
+            let old = old.map(|record| record.flags.bits());
+            let mut data = generator::data(rng);
+            if rng.percent(4) {
+                data.resize(481, 0);
+            }
+            let iv_length = if rng.percent(4) { 7 } else { 8 };
+            Call::Set {
+                key,
+                name,
+                flags: if rng.percent(4) {
+                    8
+                } else {
+                    generator::flags(rng, old)
+                },
+                iv: rng.bytes(iv_length),
+                data,
+            }
+        }
+        5..=7 => {
+            let size = old.map_or(0, |record| record.stored.len());
+            Call::Get {
+                key,
+                name,
+                offset: generator::offset(rng, size),
+                output: generator::output(rng, size),
+            }
+        }
+        8 => Call::Info { key, name },
+        _ => Call::Remove { name },
+    }
+}
+
+fn shuffle(rng: &mut Rng, lists: [Vec<Call>; 2]) -> Vec<(usize, Call)> {
+    let mut lists = lists.map(std::collections::VecDeque::from);
+    let mut calls = Vec::new();
+    while let Some(side) = match [lists[0].is_empty(), lists[1].is_empty()] {
+        [true, true] => None,
+        [false, true] => Some(0),
+        [true, false] => Some(1),
+        [false, false] => Some(rng.below(2)),
+    } {
+        calls.extend(lists[side].pop_front().map(|call| (side, call)));
+    }
+    calls
+}
+
+/// The same slots among as few as the premise allows, at times a few more.
+fn with_room<S: Slot + Clone>(rng: &mut Rng, area: Area<S>, set: &BTreeSet<&[u8]>) -> Area<S> {
+    let held: BTreeSet<&[u8]> = area.used().map(|(_, slot)| slot.name()).collect();
+    let room = held.union(set).count() + rng.pick(&[0, 0, 0, 1, 3]);
+    let mut roomy = Area::free(room.max(1));
+    for (_, slot) in area.used() {
+        let mut at = rng.below(roomy.slots.len());
+        while roomy.slots[at].is_some() {
+            at = (at + 1) % roomy.slots.len();
+        }
+        roomy.slots[at] = Some(slot.clone());
+    }
+    roomy
+}
+
+/// What differs first, if anything does.
+pub fn check(merge: &Merge, library: &dyn Library, tally: &mut Tally) -> Option<String> {
+    let (mut card, mut chip) = (merge.card.clone(), merge.chip.clone());
+    let start = Book::of(&Card::decode(&card)?, &Chip::decode(&chip)?);
+    let mut books = [start.clone(), start.clone()];
+    for (step, (side, call)) in merge.calls.iter().enumerate() {
+        let expected = books[*side].step(call);
+        let (_, why) = calls::answer(&card, &chip, call);
+        let got = library.call(&card, &chip, call);
+        tally.count(call.kind(), got.answer.number, why);
+        let told = Answer {
+            number: got.answer.number,
+            returned: got.answer.returned,
+            output: got.answer.output,
+        };
+        if let Some(stray) = got.strays.first() {
+            return Some(format!("step {step}: {stray}"));
+        }
+        if told != expected {
+            return Some(format!(
+                "step {step}: the book says {} {:?} output {}\n    got {} {:?} output {}",
+                expected.number,
+                expected.returned,
+                show::buffer(&expected.output),
+                told.number,
+                told.returned,
+                show::buffer(&told.output)
+            ));
+        }
+        (card, chip) = (got.answer.card, got.answer.chip);
+    }
+    final_contents(merge, &start, &books, &card, &chip)
+}
+
+/// In the end each name has the contents of its own list's book.
+fn final_contents(
+    merge: &Merge,
+    start: &Book,
+    books: &[Book; 2],
+    card: &[u8],
+    chip: &[u8],
+) -> Option<String> {
+    let (Some(card), Some(chip)) = (Card::decode(card), Chip::decode(chip)) else {
+        return Some("the final card or chip is damaged".into());
+    };
+    let end = Book::of(&card, &chip);
+    let called = merge.calls.iter().map(|(_, call)| name_of(call).to_vec());
+    let names: BTreeSet<Vec<u8>> = called
+        .chain(start.names().chain(end.names()).cloned())
+        .collect();
+    names.iter().find_map(|name| {
+        let mut owner = merge.calls.iter().filter(|(_, call)| name_of(call) == name);
+        let book = owner.next().map_or(start, |(side, _)| &books[*side]);
+        let (expected, got) = (book.contents(name), end.contents(name));
+        (expected != got).then(|| {
+            format!(
+                "final contents of \"{}\"\n    expected {}\n    got {}",
+                name.escape_ascii(),
+                contents(&expected),
+                contents(&got)
+            )
+        })
+    })
+}
+
+fn contents(contents: &Contents) -> String {
+    let record = contents
+        .record
+        .as_deref()
+        .map_or("none".into(), show::buffer);
+    let cmac = contents.cmac.map_or("none".into(), |cmac| show::hex(&cmac));
+    format!("record {record}, CMAC {cmac}")
+}
+
+/// The shortest merge found that still differs, told.
+pub fn report(merge: &Merge, library: &dyn Library) -> String {
+    let differs = |merge: &Merge| check(merge, library, &mut Tally::default()).is_some();
+    let with = |calls: &[(usize, Call)]| Merge {
+        calls: calls.to_vec(),
+        ..merge.clone()
+    };
+    let mut short = with(&drop_parts(merge.calls.clone(), &|calls| {
+        differs(&with(calls))
+    }));
+    // Dropping a place could take the room that the premise asks for.
+    short.card = shorten_area(short.card.clone(), PLACE, &|card| {
+        card.len() == merge.card.len()
+            && differs(&Merge {
+                card: card.to_vec(),
+                ..short.clone()
+            })
+    });
+    short.chip = shorten_area(short.chip.clone(), ENTRY, &|chip| {
+        chip.len() == merge.chip.len()
+            && differs(&Merge {
+                chip: chip.to_vec(),
+                ..short.clone()
+            })
+    });
+    let mut text = format!(
+        "  start card {}\n  start chip {}\n",
+        show::buffer(&short.card),
+        show::buffer(&short.chip)
+    );
+    for (side, call) in &short.calls {
+        text += &format!("  list {}: {}\n", ["A", "B"][*side], show::call(call));
+    }
+    let difference = check(&short, library, &mut Tally::default());
+    text + "  " + &difference.expect("it still differs") + "\n"
+}
+
+/// The numbers that the book can answer each call of demand 3 with.
+pub fn numbers(kind: &str) -> &'static [usize] {
+    match kind {
+        "set" => &[0, 1, 3, 4, 5, 7, 8, 9],
+        "get" => &[0, 1, 3, 6, 8, 11, 12, 14],
+        "info" => &[0, 1, 3, 6, 8, 11, 12],
+        "remove" => &[0, 3, 6, 7, 8],
+        _ => &[],
+    }
+}
+
+#[cfg(test)]
+mod tests {
+    use super::*;
+    use crate::library::Reference;
+
+    #[test]
+    fn the_reference_keeps_demand_3() {
+        let mut tally = Tally::default();
+        for index in 0..1500 {
+            let merge = merge(Rng::part(3, index));
+            if check(&merge, &Reference, &mut tally).is_some() {
+                panic!("{}", report(&merge, &Reference));
+            }
+        }
+        for kind in 0..4 {
+            for number in 0..15 {
+                let due = numbers(Call::KINDS[kind]).contains(&number);
+                let seen = tally.number(kind, number) > 0;
+                assert_eq!(seen, due, "{} {number}", Call::KINDS[kind]);
+            }
+        }
+    }
+}

@@ -1,0 +1,296 @@
+//! Stories run through the library and the reference side by side.
+
+use std::collections::BTreeMap;
+
+use crate::answer::{Answer, Why};
+use crate::area::{ENTRY, PLACE};
+use crate::calls::{self, Call};
+use crate::generator::{refusals, Step, Story};
+use crate::library::{Library, Observed};
+use crate::show;
+use crate::shrink::{drop_parts, shorten_area};
+
+pub const NUMBERS: usize = 15;
+
+/// How often each call answered each number, and for which test.
+#[derive(Clone, Default)]
+pub struct Tally {
+    numbers: [[u64; NUMBERS]; Call::KINDS.len()],
+    tests: BTreeMap<(usize, Option<Why>), u64>,
+    /// Answers above 14.
+    strange: u64,
+}
+
+impl Tally {
+    pub fn count(&mut self, kind: usize, number: u32, why: Option<Why>) {
+        match self.numbers[kind].get_mut(number as usize) {
+            Some(count) => *count += 1,
+            None => self.strange += 1,
+        }
+        *self.tests.entry((kind, why)).or_default() += 1;
+    }
+
+    pub fn add(&mut self, other: &Tally) {
+        for (row, more) in self.numbers.iter_mut().zip(&other.numbers) {
+            for (count, more) in row.iter_mut().zip(more) {
+                *count += more;
+            }
+        }
+        for (test, more) in &other.tests {
+            *self.tests.entry(*test).or_default() += more;
+        }
+        self.strange += other.strange;
+    }
+
+    pub fn calls(&self) -> u64 {
+        self.numbers.iter().flatten().sum::<u64>() + self.strange
+    }
+
+    pub fn number(&self, kind: usize, number: usize) -> u64 {
+        self.numbers[kind][number]
+    }
+
+    pub fn table(&self, kinds: &[usize]) -> String {
+        let mut text = format!("{:>8}", "");
+        for number in 0..NUMBERS {
+            text += &format!("{number:>8}");
+        }
+        for kind in kinds {
+            text += &format!("\n{:>8}", Call::KINDS[*kind]);
+            for count in self.numbers[*kind] {
+                let shown = if count == 0 {
+                    "-".into()
+                } else {
+                    count.to_string()
+                };
+                text += &format!("{shown:>8}");
+            }
+        }
+        text
+    }
+
+    /// Tests of these calls that never refused, or refused though 01 has no such
+    /// test for the call.
+    pub fn gaps(&self, kinds: &[usize]) -> Vec<String> {
+        let mut gaps = Vec::new();
+        for kind in kinds {
+            let name = Call::KINDS[*kind];
+            let mut due: Vec<Option<Why>> = refusals(name).into_iter().map(Some).collect();
+            due.push(None);
+            for why in &due {
+                if !self.tests.contains_key(&(*kind, *why)) {
+                    gaps.push(match why {
+                        Some(why) => format!("{name} was never refused by {why:?}"),
+                        None => format!("{name} was never done"),
+                    });
+                }
+            }
+            for (_, why) in self.tests.keys().filter(|(of, _)| of == kind) {
+                if !due.contains(why) {
+                    gaps.push(format!("{name} answered by {why:?}, which it can't"));
+                }
+            }
+        }
+        if self.strange > 0 {
+            gaps.push(format!("{} answers above 14", self.strange));
+        }
+        gaps
+    }
+
+    /// The rarest test of all, to see how thin the coverage is.
+    pub fn rarest(&self) -> String {
+        match self.tests.iter().min_by_key(|(_, count)| **count) {
+            Some(((kind, why), count)) => {
+                let why = why.map_or("done".into(), |why| format!("{why:?}"));
+                format!("{} {why}, {count} times", Call::KINDS[*kind])
+            }
+            None => "none".into(),
+        }
+    }
+}
+
+/// A call whose answers differ, with the card and chip it was lent.
+pub struct Mismatch {
+    pub step: usize,
+    card: Vec<u8>,
+    chip: Vec<u8>,
+    call: Call,
+    expected: Answer,
+    got: Observed,
+}
+
+fn difference(expected: &Answer, got: &Observed) -> Option<String> {
+    let answer = &got.answer;
+    if let Some(stray) = got.strays.first() {
+        return Some(stray.clone());
+    }
+    if expected.number != answer.number {
+        let (a, b) = (expected.number, answer.number);
+        return Some(format!("number: expected {a}, got {b}"));
+    }
+    if expected.returned != answer.returned {
+        let (a, b) = (expected.returned, answer.returned);
+        return Some(format!("returned numbers: expected {a:?}, got {b:?}"));
+    }
+    show::first_difference("card", &expected.card, &answer.card)
+        .or_else(|| show::first_difference("chip", &expected.chip, &answer.chip))
+        .or_else(|| show::first_difference("output", &expected.output, &answer.output))
+}
+
+/// The first call of the story whose answers differ.
+pub fn check(story: &Story, library: &dyn Library, tally: &mut Tally) -> Option<Mismatch> {
+    let (mut card, mut chip) = (story.card.clone(), story.chip.clone());
+    for (step, what) in story.steps.iter().enumerate() {
+        match what {
+            Step::Tamper {
+                card: new_card,
+                chip: new_chip,
+                ..
+            } => (card, chip) = (new_card.clone(), new_chip.clone()),
+            Step::Call(call) => {
+                let (expected, why) = calls::answer(&card, &chip, call);
+                let got = library.call(&card, &chip, call);
+                tally.count(call.kind(), got.answer.number, why);
+                if difference(&expected, &got).is_some() {
+                    return Some(Mismatch {
+                        step,
+                        card,
+                        chip,
+                        call: call.clone(),
+                        expected,
+                        got,
+                    });
+                }
+                (card, chip) = (expected.card, expected.chip);
+            }
+        }
+    }
+    None
+}
+
+/// The shortest story found that still mismatches, told. A single call is tried
+/// first: card and chip are all the state that a call has by 01.
+pub fn report(story: &Story, found: &Mismatch, library: &dyn Library) -> String {
+    let differs = |story: &Story| check(story, library, &mut Tally::default()).is_some();
+    let single = Story {
+        card: found.card.clone(),
+        chip: found.chip.clone(),
+        steps: vec![Step::Call(found.call.clone())],
+    };
+    let mut short = if differs(&single) {
+        single
+    } else {
+        let with = |steps: &[Step]| Story {
+            steps: steps.to_vec(),
+            ..story.clone()
+        };
+        with(&drop_parts(story.steps.clone(), &|steps| {
+            differs(&with(steps))
+        }))
+    };
+    short.card = shorten_area(short.card.clone(), PLACE, &|card| {
+        differs(&Story {
+            card: card.to_vec(),
+            ..short.clone()
+        })
+    });
+    short.chip = shorten_area(short.chip.clone(), ENTRY, &|chip| {
+        differs(&Story {
+            chip: chip.to_vec(),
+            ..short.clone()
+        })
+    });
+    tell(&short, library)
+}
+
+fn tell(story: &Story, library: &dyn Library) -> String {
+    let mut text = format!(
+        "  start card {}\n  start chip {}\n",
+        show::buffer(&story.card),
+        show::buffer(&story.chip)
+    );
+    for step in &story.steps {
+        text += &match step {
+            Step::Call(call) => format!("  {}\n", show::call(call)),
+            Step::Tamper { what, card, chip } => format!(
+                "  {what}\n    card {}\n    chip {}\n",
+                show::buffer(card),
+                show::buffer(chip)
+            ),
+        };
+    }
+    let found = check(story, library, &mut Tally::default()).expect("it still mismatches");
+    text += &format!(
+        "  at step {}: {}\n    expected {}\n    got {}\n",
+        found.step,
+        difference(&found.expected, &found.got).expect("a difference"),
+        show::answer(&found.expected),
+        show::answer(&found.got.answer)
+    );
+    text
+}
+
+#[cfg(test)]
+mod tests {
+    use super::*;
+    use crate::aes::Block;
+    use crate::ctr::Iv;
+    use crate::generator;
+    use crate::library::{Reference, Seen};
+    use crate::rng::Rng;
+
+    #[test]
+    fn stories_reach_every_test_of_every_call() {
+        let mut tally = Tally::default();
+        for index in 0..1500 {
+            let story = generator::story(Rng::part(1, index));
+            assert!((10..=40).contains(&story.steps.len()));
+            assert!(check(&story, &Reference, &mut tally).is_none());
+        }
+        let kinds: Vec<usize> = (0..Call::KINDS.len()).collect();
+        assert_eq!(tally.gaps(&kinds), Vec::<String>::new());
+    }
+
+    /// A store that writes one byte too many on a done get.
+    struct Leaky;
+
+    impl Library for Leaky {
+        fn call(&self, card: &[u8], chip: &[u8], call: &Call) -> Observed {
+            let mut seen = Reference.call(card, chip, call);
+            let count = seen.answer.returned[0] as usize;
+            if matches!(call, Call::Get { .. }) && count > 0 && count < seen.answer.output.len() {
+                seen.answer.output[count] ^= 1;
+            }
+            seen
+        }
+
+        fn aes(&self, key: &Block, block: &Block) -> Seen<Block> {
+            Reference.aes(key, block)
+        }
+
+        fn cmac(&self, key: &Block, message: &[u8]) -> Seen<Block> {
+            Reference.cmac(key, message)
+        }
+
+        fn ctr(&self, key: &Block, iv: &Iv, data: &[u8]) -> Seen<Vec<u8>> {
+            Reference.ctr(key, iv, data)
+        }
+
+        fn derive(&self, key: &Block, prefix: &[u8], name: &[u8]) -> Seen<Block> {
+            Reference.derive(key, prefix, name)
+        }
+    }
+
+    #[test]
+    fn a_wrong_store_is_caught_and_its_story_shortened() {
+        let told = (0..200).find_map(|index| {
+            let story = generator::story(Rng::part(2, index));
+            let found = check(&story, &Leaky, &mut Tally::default())?;
+            Some(report(&story, &found, &Leaky))
+        });
+        let told = told.expect("a mismatch");
+        assert!(told.contains("output differs first at byte"), "{told}");
+        assert_eq!(told.matches("\n  get name").count(), 1, "{told}");
+        assert!(!told.contains("\n  set"), "{told}");
+    }
+}
