@@ -323,6 +323,7 @@ impl Teller {
                 chip: self.sound.1.clone(),
             },
             40..=59 if undamaged => self.tamper(),
+            60..=65 if !undamaged => Step::Call(Call::Reset),
             _ => Step::Call(self.call()),
         };
         self.past.push((self.card.clone(), self.chip.clone()));
@@ -630,8 +631,8 @@ impl Teller {
                 }
                 "a place is renamed"
             }
-            82..=93 => self.put_back(&mut card, &mut chip),
-            94..=96 => {
+            82..=91 => self.put_back(&mut card, &mut chip),
+            92..=95 => {
                 resize(&mut self.rng, &mut card, PLACE);
                 "the card has another length"
             }

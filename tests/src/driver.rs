@@ -1,0 +1,173 @@
+//! The run: named checks, a line each, and the tables.
+
+use std::thread;
+
+use reference::calls::Call;
+use reference::ciphers::{self, Checked};
+use reference::generator::Step;
+use reference::library::Library;
+use reference::rng::Rng;
+use reference::stories::{self, Tally};
+use reference::{edges, generator, lists};
+
+use crate::openssl;
+
+/// Whether the library has the calls for key files.
+const KEY_FILES: bool = cfg!(feature = "key-files");
+const THREADS: u64 = 2;
+/// Mismatches told in full; the rest are only counted.
+const TOLD: usize = 3;
+
+pub struct Options {
+    pub seed: u64,
+    pub stories: u64,
+    pub lists: u64,
+}
+
+/// Counts of named checks.
+#[derive(Default)]
+pub struct Score {
+    pub passed: usize,
+    pub failed: usize,
+}
+
+impl Score {
+    fn check(&mut self, name: &str, checked: Checked) {
+        match checked {
+            Ok(note) => {
+                self.passed += 1;
+                println!("{}", format!("ok {name} {note}").trim_end());
+            }
+            Err(why) => {
+                self.failed += 1;
+                println!("FAILED {name} {why}");
+            }
+        }
+    }
+}
+
+pub fn run(library: &dyn Library, options: &Options) -> Score {
+    let mut score = Score::default();
+    println!(
+        "seed {} stories {} lists {}",
+        options.seed, options.stories, options.lists
+    );
+    for (name, checked) in ciphers::checks(library, options.seed) {
+        score.check(&name, checked);
+    }
+    if openssl::installed() {
+        for (name, checked) in openssl::checks(library, options.seed) {
+            score.check(&name, checked);
+        }
+    } else {
+        println!("skipped openssl: the command is not installed");
+    }
+    for (name, checked) in edges::checks(library) {
+        if name == "edge-key-files" && !KEY_FILES {
+            continue;
+        }
+        score.check(&name, checked);
+    }
+    run_stories(library, options, &mut score);
+    run_lists(library, options, &mut score);
+    score
+}
+
+/// Runs `count` cases on a few threads: the tally, and what the cases that
+/// failed have to tell, in their order.
+fn in_parts(
+    count: u64,
+    case: &(dyn Fn(u64, &mut Tally) -> Option<String> + Sync),
+) -> (Tally, Vec<String>) {
+    let part = |first: u64| {
+        let mut tally = Tally::default();
+        let mut told = Vec::new();
+        for index in (first..count).step_by(THREADS as usize) {
+            if let Some(text) = case(index, &mut tally) {
+                told.push((index, text));
+            }
+        }
+        (tally, told)
+    };
+    let (mut tally, mut told) = (Tally::default(), Vec::new());
+    thread::scope(|scope| {
+        let parts: Vec<_> = (0..THREADS)
+            .map(|first| scope.spawn(move || part(first)))
+            .collect();
+        for handle in parts {
+            let (counts, texts) = handle.join().expect("no part panics");
+            tally.add(&counts);
+            told.extend(texts);
+        }
+    });
+    told.sort();
+    (tally, told.into_iter().map(|(_, text)| text).collect())
+}
+
+fn verdict(mismatches: &[String], passed: String) -> Checked {
+    if mismatches.is_empty() {
+        return Ok(passed);
+    }
+    let told: String = mismatches.iter().take(TOLD).cloned().collect();
+    Err(format!("{} mismatches\n{told}", mismatches.len()))
+}
+
+fn run_stories(library: &dyn Library, options: &Options, score: &mut Score) {
+    let seed = options.seed;
+    let (tally, mismatches) = in_parts(options.stories, &|index, tally| {
+        let mut story = generator::story(Rng::part(seed, index));
+        if !KEY_FILES {
+            let known = |step: &Step| !matches!(step, Step::Call(call) if call.kind() > 5);
+            story.steps.retain(known);
+        }
+        let found = stories::check(&story, library, tally)?;
+        let told = stories::report(&story, &found, library);
+        Some(format!(
+            "  story {index} of seed {seed}, shortened:\n{told}"
+        ))
+    });
+    let calls = tally.calls();
+    let passed = format!("{} stories, {calls} calls", options.stories);
+    score.check("stories", verdict(&mismatches, passed));
+
+    let kinds: Vec<usize> = (0..if KEY_FILES { Call::KINDS.len() } else { 6 }).collect();
+    println!("answers in the stories:\n{}", tally.table(&kinds));
+    let gaps = tally.gaps(&kinds);
+    let checked = if gaps.is_empty() {
+        Ok(format!("rarest: {}", tally.rarest()))
+    } else {
+        Err(gaps.join("; "))
+    };
+    score.check("stories-coverage", checked);
+}
+
+fn run_lists(library: &dyn Library, options: &Options, score: &mut Score) {
+    let seed = options.seed;
+    let (tally, mismatches) = in_parts(options.lists, &|index, tally| {
+        let merge = lists::merge(Rng::part(!seed, index));
+        lists::check(&merge, library, tally)?;
+        let told = lists::report(&merge, library);
+        Some(format!(
+            "  lists {index} of seed {seed}, shortened:\n{told}"
+        ))
+    });
+    let calls = tally.calls();
+    let passed = format!("{} merges, {calls} calls", options.lists);
+    score.check("demand-3", verdict(&mismatches, passed));
+
+    println!("answers in the lists:\n{}", tally.table(&[0, 1, 2, 3]));
+    let gaps: Vec<String> = (0..4)
+        .flat_map(|kind| (0..stories::NUMBERS).map(move |number| (kind, number)))
+        .filter(|(kind, number)| {
+            let due = lists::numbers(Call::KINDS[*kind]).contains(number);
+            due != (tally.number(*kind, *number) > 0)
+        })
+        .map(|(kind, number)| format!("{} {number}", Call::KINDS[kind]))
+        .collect();
+    let checked = if gaps.is_empty() {
+        Ok(String::new())
+    } else {
+        Err(format!("missing, or against the book: {}", gaps.join(", ")))
+    };
+    score.check("demand-3-coverage", checked);
+}

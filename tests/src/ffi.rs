@@ -1,0 +1,522 @@
+//! The product's static library, called with guarded copies of every buffer.
+
+use std::os::raw::c_uchar;
+
+use reference::aes::Block;
+use reference::answer::Answer;
+use reference::calls::Call;
+use reference::ctr::Iv;
+use reference::library::{Library, Observed, Seen};
+
+type Bytes = *const c_uchar;
+type BytesMut = *mut c_uchar;
+
+extern "C" {
+    fn securestore_set(
+        kv: BytesMut,
+        kv_len: usize,
+        rbp: BytesMut,
+        rbp_len: usize,
+        key: Bytes,
+        key_len: usize,
+        name: Bytes,
+        name_len: usize,
+        flags: u32,
+        iv: Bytes,
+        iv_len: usize,
+        data: Bytes,
+        data_len: usize,
+    ) -> u32;
+    fn securestore_get(
+        kv: Bytes,
+        kv_len: usize,
+        rbp: Bytes,
+        rbp_len: usize,
+        key: Bytes,
+        key_len: usize,
+        name: Bytes,
+        name_len: usize,
+        offset: usize,
+        out: BytesMut,
+        out_len: usize,
+        count: *mut usize,
+    ) -> u32;
+    fn securestore_get_info(
+        kv: Bytes,
+        kv_len: usize,
+        rbp: Bytes,
+        rbp_len: usize,
+        key: Bytes,
+        key_len: usize,
+        name: Bytes,
+        name_len: usize,
+        data_size: *mut u32,
+        flags: *mut u32,
+    ) -> u32;
+    fn securestore_remove(
+        kv: BytesMut,
+        kv_len: usize,
+        rbp: BytesMut,
+        rbp_len: usize,
+        name: Bytes,
+        name_len: usize,
+    ) -> u32;
+    fn securestore_reset(kv: BytesMut, kv_len: usize, rbp: BytesMut, rbp_len: usize) -> u32;
+    fn securestore_iterator_next(
+        kv: Bytes,
+        kv_len: usize,
+        rbp: Bytes,
+        rbp_len: usize,
+        prefix: Bytes,
+        prefix_len: usize,
+        start: usize,
+        name_buf: BytesMut,
+        name_buf_len: usize,
+        name_len: *mut usize,
+        next: *mut usize,
+    ) -> u32;
+    fn securestore_aes128_encrypt(key: Bytes, block: BytesMut);
+    fn securestore_cmac(key: Bytes, message: Bytes, message_len: usize, tag: BytesMut);
+    fn securestore_ctr(key: Bytes, iv: Bytes, data: BytesMut, data_len: usize);
+    fn securestore_derive(
+        device_key: Bytes,
+        prefix: Bytes,
+        prefix_len: usize,
+        name: Bytes,
+        name_len: usize,
+        out: BytesMut,
+    );
+}
+
+#[cfg(feature = "key-files")]
+extern "C" {
+    fn securestore_format_key_file(
+        lifetime: u32,
+        kind: u32,
+        usage: u32,
+        alg: u32,
+        enrollment_alg: u32,
+        material: Bytes,
+        material_len: usize,
+        key_buf: BytesMut,
+        key_buf_len: usize,
+        count: *mut usize,
+    ) -> u32;
+    fn securestore_save_key(
+        kv: BytesMut,
+        kv_len: usize,
+        rbp: BytesMut,
+        rbp_len: usize,
+        key: Bytes,
+        key_len: usize,
+        id: u32,
+        lifetime: u32,
+        kind: u32,
+        usage: u32,
+        alg: u32,
+        enrollment_alg: u32,
+        material: Bytes,
+        material_len: usize,
+        flags: u32,
+        iv: Bytes,
+        iv_len: usize,
+    ) -> u32;
+    fn securestore_load_key(
+        kv: Bytes,
+        kv_len: usize,
+        rbp: Bytes,
+        rbp_len: usize,
+        key: Bytes,
+        key_len: usize,
+        id: u32,
+        key_buf: BytesMut,
+        key_buf_len: usize,
+        count: *mut usize,
+    ) -> u32;
+}
+
+const GUARD: usize = 64;
+
+/// A copy of a lent buffer between two guards, so that a write outside is seen.
+struct Lent {
+    what: &'static str,
+    bytes: Vec<u8>,
+    before: Vec<u8>,
+}
+
+impl Lent {
+    fn new(what: &'static str, content: &[u8]) -> Lent {
+        let mut bytes = vec![0xa5; GUARD];
+        bytes.extend(content);
+        bytes.extend([0x5a; GUARD]);
+        Lent {
+            what,
+            before: bytes.clone(),
+            bytes,
+        }
+    }
+
+    fn len(&self) -> usize {
+        self.bytes.len() - 2 * GUARD
+    }
+
+    fn ptr(&self) -> Bytes {
+        self.bytes[GUARD..].as_ptr()
+    }
+
+    fn ptr_mut(&mut self) -> BytesMut {
+        self.bytes[GUARD..].as_mut_ptr()
+    }
+
+    fn content(&self) -> &[u8] {
+        &self.bytes[GUARD..GUARD + self.len()]
+    }
+
+    /// A write outside the buffer.
+    fn overrun(&self) -> Option<String> {
+        let end = GUARD + self.len();
+        let changed = (0..self.bytes.len())
+            .filter(|at| !(GUARD..end).contains(at))
+            .find(|at| self.bytes[*at] != self.before[*at]);
+        changed.map(|at| {
+            let at = at as i64 - GUARD as i64;
+            format!("{} was written outside, at byte {at}", self.what)
+        })
+    }
+
+    /// A write to a buffer that the call may only read.
+    fn written(&self) -> Option<String> {
+        let changed = self.content() != &self.before[GUARD..GUARD + self.len()];
+        let note = format!("{} was written, though only lent to read", self.what);
+        changed.then_some(note).or_else(|| self.overrun())
+    }
+}
+
+/// A number that the call returns, between guards and with a value that no call
+/// returns, so that a number left unwritten is seen.
+struct Number<T>([T; 3]);
+
+const UNWRITTEN: usize = 0x5eed_5eed;
+
+impl Number<usize> {
+    fn new() -> Self {
+        Number([UNWRITTEN; 3])
+    }
+}
+
+impl Number<u32> {
+    fn new() -> Self {
+        Number([UNWRITTEN as u32; 3])
+    }
+}
+
+impl<T> Number<T> {
+    fn ptr(&mut self) -> *mut T {
+        &mut self.0[1]
+    }
+}
+
+impl<T: Copy + PartialEq + TryInto<u64>> Number<T> {
+    fn value(&self, unwritten: T, strays: &mut Vec<String>) -> u64 {
+        if self.0[0] != unwritten || self.0[2] != unwritten {
+            strays.push("a write beside a returned number".into());
+        }
+        self.0[1].try_into().unwrap_or(u64::MAX)
+    }
+}
+
+pub struct Product;
+
+impl Library for Product {
+    fn call(&self, card: &[u8], chip: &[u8], call: &Call) -> Observed {
+        let mut lent = Lending {
+            card: Lent::new("card", card),
+            chip: Lent::new("chip", chip),
+            output: Lent::new("output", call.output()),
+            read_only: Vec::new(),
+            returned: [0; 2],
+            strays: Vec::new(),
+        };
+        let number = lent.run(call);
+        lent.observe(number)
+    }
+
+    fn aes(&self, key: &Block, block: &Block) -> Seen<Block> {
+        let key = Lent::new("key", key);
+        let mut block = Lent::new("block", block);
+        // SAFETY: both buffers have the 16 bytes that the call asks for.
+        unsafe { securestore_aes128_encrypt(key.ptr(), block.ptr_mut()) };
+        cipher_result(&[&key], &block).map(to_block)
+    }
+
+    fn cmac(&self, key: &Block, message: &[u8]) -> Seen<Block> {
+        let (key, message) = (Lent::new("key", key), Lent::new("message", message));
+        let mut tag = Lent::new("tag", &[0xee; 16]);
+        // SAFETY: key and tag have 16 bytes, and the message its length.
+        unsafe { securestore_cmac(key.ptr(), message.ptr(), message.len(), tag.ptr_mut()) };
+        cipher_result(&[&key, &message], &tag).map(to_block)
+    }
+
+    fn ctr(&self, key: &Block, iv: &Iv, data: &[u8]) -> Seen<Vec<u8>> {
+        let (key, iv) = (Lent::new("key", key), Lent::new("IV", iv));
+        let mut data = Lent::new("data", data);
+        // SAFETY: key and IV have 16 and 8 bytes, and the data its length.
+        unsafe { securestore_ctr(key.ptr(), iv.ptr(), data.ptr_mut(), data.len()) };
+        cipher_result(&[&key, &iv], &data)
+    }
+
+    fn derive(&self, key: &Block, prefix: &[u8], name: &[u8]) -> Seen<Block> {
+        let key = Lent::new("key", key);
+        let (prefix, name) = (Lent::new("prefix", prefix), Lent::new("name", name));
+        let mut out = Lent::new("derived key", &[0xee; 16]);
+        // SAFETY: key and output have 16 bytes, prefix and name their lengths.
+        unsafe {
+            securestore_derive(
+                key.ptr(),
+                prefix.ptr(),
+                prefix.len(),
+                name.ptr(),
+                name.len(),
+                out.ptr_mut(),
+            )
+        };
+        cipher_result(&[&key, &prefix, &name], &out).map(to_block)
+    }
+}
+
+fn cipher_result(read_only: &[&Lent], result: &Lent) -> Seen<Vec<u8>> {
+    let stray = read_only.iter().find_map(|lent| lent.written());
+    match stray.or_else(|| result.overrun()) {
+        Some(stray) => Err(stray),
+        None => Ok(result.content().to_vec()),
+    }
+}
+
+fn to_block(bytes: Vec<u8>) -> Block {
+    bytes.try_into().expect("16 bytes were lent")
+}
+
+/// All that one call is lent.
+struct Lending {
+    card: Lent,
+    chip: Lent,
+    output: Lent,
+    read_only: Vec<Lent>,
+    returned: [u64; 2],
+    strays: Vec<String>,
+}
+
+impl Lending {
+    fn observe(mut self, number: u32) -> Observed {
+        let writable = [&self.card, &self.chip, &self.output];
+        let overruns = writable.into_iter().filter_map(Lent::overrun);
+        let written = self.read_only.iter().filter_map(Lent::written);
+        self.strays.extend(overruns.chain(written));
+        Observed {
+            answer: Answer {
+                number,
+                returned: self.returned,
+                card: self.card.content().to_vec(),
+                chip: self.chip.content().to_vec(),
+                output: self.output.content().to_vec(),
+            },
+            strays: self.strays,
+        }
+    }
+
+    /// Lends a buffer to read; the pointer holds as long as the lending.
+    fn read(&mut self, what: &'static str, content: &[u8]) -> (Bytes, usize) {
+        let lent = Lent::new(what, content);
+        let place = (lent.ptr(), lent.len());
+        self.read_only.push(lent);
+        place
+    }
+
+    fn run(&mut self, call: &Call) -> u32 {
+        let (kv, kv_len) = (self.card.ptr_mut(), self.card.len());
+        let (rbp, rbp_len) = (self.chip.ptr_mut(), self.chip.len());
+        let (out, out_len) = (self.output.ptr_mut(), self.output.len());
+        // SAFETY, of every call below: each pointer is to a live buffer of the
+        // length beside it, no two overlap, and numbers are returned to places
+        // of their own type.
+        match call {
+            Call::Set {
+                key,
+                name,
+                flags,
+                iv,
+                data,
+            } => {
+                let (key, key_len) = self.read("device key", key);
+                let (name, name_len) = self.read("name", name);
+                let (iv, iv_len) = self.read("IV", iv);
+                let (data, data_len) = self.read("data", data);
+                unsafe {
+                    securestore_set(
+                        kv, kv_len, rbp, rbp_len, key, key_len, name, name_len, *flags, iv, iv_len,
+                        data, data_len,
+                    )
+                }
+            }
+            Call::Get {
+                key, name, offset, ..
+            } => {
+                let (key, key_len) = self.read("device key", key);
+                let (name, name_len) = self.read("name", name);
+                let mut count = Number::<usize>::new();
+                let number = unsafe {
+                    securestore_get(
+                        kv,
+                        kv_len,
+                        rbp,
+                        rbp_len,
+                        key,
+                        key_len,
+                        name,
+                        name_len,
+                        *offset,
+                        out,
+                        out_len,
+                        count.ptr(),
+                    )
+                };
+                self.returned[0] = count.value(UNWRITTEN, &mut self.strays);
+                number
+            }
+            Call::Info { key, name } => {
+                let (key, key_len) = self.read("device key", key);
+                let (name, name_len) = self.read("name", name);
+                let (mut data_size, mut flags) = (Number::<u32>::new(), Number::<u32>::new());
+                let number = unsafe {
+                    securestore_get_info(
+                        kv,
+                        kv_len,
+                        rbp,
+                        rbp_len,
+                        key,
+                        key_len,
+                        name,
+                        name_len,
+                        data_size.ptr(),
+                        flags.ptr(),
+                    )
+                };
+                let unwritten = UNWRITTEN as u32;
+                self.returned[0] = data_size.value(unwritten, &mut self.strays);
+                self.returned[1] = flags.value(unwritten, &mut self.strays);
+                number
+            }
+            Call::Remove { name } => {
+                let (name, name_len) = self.read("name", name);
+                unsafe { securestore_remove(kv, kv_len, rbp, rbp_len, name, name_len) }
+            }
+            Call::Reset => unsafe { securestore_reset(kv, kv_len, rbp, rbp_len) },
+            Call::Walk { prefix, start, .. } => {
+                let (prefix, prefix_len) = self.read("prefix", prefix);
+                let (mut name_len, mut next) = (Number::<usize>::new(), Number::<usize>::new());
+                let number = unsafe {
+                    securestore_iterator_next(
+                        kv,
+                        kv_len,
+                        rbp,
+                        rbp_len,
+                        prefix,
+                        prefix_len,
+                        *start,
+                        out,
+                        out_len,
+                        name_len.ptr(),
+                        next.ptr(),
+                    )
+                };
+                self.returned[0] = name_len.value(UNWRITTEN, &mut self.strays);
+                self.returned[1] = next.value(UNWRITTEN, &mut self.strays);
+                number
+            }
+            #[cfg(not(feature = "key-files"))]
+            _ => u32::MAX,
+            #[cfg(feature = "key-files")]
+            Call::WriteKeyFile {
+                attributes,
+                material,
+                ..
+            } => {
+                let (material, material_len) = self.read("material", material);
+                let mut count = Number::<usize>::new();
+                let number = unsafe {
+                    securestore_format_key_file(
+                        attributes.lifetime,
+                        attributes.kind,
+                        attributes.usage,
+                        attributes.algorithm,
+                        attributes.enrollment,
+                        material,
+                        material_len,
+                        out,
+                        out_len,
+                        count.ptr(),
+                    )
+                };
+                self.returned[0] = count.value(UNWRITTEN, &mut self.strays);
+                number
+            }
+            #[cfg(feature = "key-files")]
+            Call::KeepKey {
+                key,
+                identifier,
+                attributes,
+                material,
+                flags,
+                iv,
+            } => {
+                let (key, key_len) = self.read("device key", key);
+                let (material, material_len) = self.read("material", material);
+                let (iv, iv_len) = self.read("IV", iv);
+                unsafe {
+                    securestore_save_key(
+                        kv,
+                        kv_len,
+                        rbp,
+                        rbp_len,
+                        key,
+                        key_len,
+                        *identifier,
+                        attributes.lifetime,
+                        attributes.kind,
+                        attributes.usage,
+                        attributes.algorithm,
+                        attributes.enrollment,
+                        material,
+                        material_len,
+                        *flags,
+                        iv,
+                        iv_len,
+                    )
+                }
+            }
+            #[cfg(feature = "key-files")]
+            Call::LoadKey {
+                key, identifier, ..
+            } => {
+                let (key, key_len) = self.read("device key", key);
+                let mut count = Number::<usize>::new();
+                let number = unsafe {
+                    securestore_load_key(
+                        kv,
+                        kv_len,
+                        rbp,
+                        rbp_len,
+                        key,
+                        key_len,
+                        *identifier,
+                        out,
+                        out_len,
+                        count.ptr(),
+                    )
+                };
+                self.returned[0] = count.value(UNWRITTEN, &mut self.strays);
+                number
+            }
+        }
+    }
+}
