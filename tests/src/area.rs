@@ -111,7 +111,7 @@ impl<S: Slot> Area<S> {
     }
 
     pub fn right_length(bytes: &[u8]) -> bool {
-        bytes.len() % S::SIZE == 0 && (1..=SLOTS_MAX).contains(&(bytes.len() / S::SIZE))
+        bytes.len().is_multiple_of(S::SIZE) && (1..=SLOTS_MAX).contains(&(bytes.len() / S::SIZE))
     }
 
     /// The places or entries of bytes of right length, or `None` for damage.

@@ -98,6 +98,23 @@ impl Call {
             _ => &[],
         }
     }
+
+    /// The long arguments that a shortened story may do with less of.
+    pub fn long_arguments(&mut self) -> Vec<&mut Vec<u8>> {
+        match self {
+            Call::Set { data, .. } => vec![data],
+            Call::Get { output, .. } => vec![output],
+            Call::Walk { name_buffer, .. } => vec![name_buffer],
+            Call::WriteKeyFile {
+                material,
+                key_buffer,
+                ..
+            } => vec![material, key_buffer],
+            Call::KeepKey { material, .. } => vec![material],
+            Call::LoadKey { key_buffer, .. } => vec![key_buffer],
+            Call::Info { .. } | Call::Remove { .. } | Call::Reset => Vec::new(),
+        }
+    }
 }
 
 /// What a done call returns and changes; `None` leaves a buffer as lent.

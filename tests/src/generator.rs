@@ -98,7 +98,7 @@ pub fn data(rng: &mut Rng) -> Vec<u8> {
 }
 
 fn attributes(rng: &mut Rng) -> Attributes {
-    let mut number = || rng.next() as u32;
+    let mut number = || rng.number() as u32;
     Attributes {
         lifetime: number(),
         kind: number(),
@@ -179,7 +179,7 @@ fn out_of_form(rng: &mut Rng, mut record: Vec<u8>) -> Vec<u8> {
             record[4..8].copy_from_slice(&rng.pick(&sizes).to_le_bytes());
         }
         3 => {
-            let wild = rng.next() as u32;
+            let wild = rng.number() as u32;
             let flags = rng.pick(&[8, 9, 10, 11, 16, 20, 1 << 31, 0x100, wild]);
             record[8..12].copy_from_slice(&flags.to_le_bytes());
         }
@@ -217,7 +217,7 @@ fn wild_flags(rng: &mut Rng) -> u32 {
     match rng.below(3) {
         0 => rng.below(32) as u32,
         1 => rng.pick(&GOOD_FLAGS) | 1 << (4 + rng.below(28)),
-        _ => rng.next() as u32,
+        _ => rng.number() as u32,
     }
 }
 
@@ -274,6 +274,21 @@ pub fn sound_start(rng: &mut Rng, cast: &Cast, places: usize, entries: usize) ->
     (card, chip)
 }
 
+/// Uses up the free places and entries, all or all but one.
+fn fill(rng: &mut Rng, cast: &Cast, card: &mut Card, chip: &mut Chip) {
+    let left = rng.below(2);
+    for number in left..card.slots.iter().filter(|slot| slot.is_none()).count() {
+        let name = format!("filler-{number}").into_bytes();
+        let record = record(rng, cast, &name);
+        card.put(Place { name, record });
+    }
+    for number in left..chip.slots.iter().filter(|slot| slot.is_none()).count() {
+        let name = format!("filler-{number}").into_bytes();
+        let cmac = rng.array();
+        chip.put(Entry { name, cmac });
+    }
+}
+
 struct Teller {
     rng: Rng,
     cast: Cast,
@@ -295,7 +310,10 @@ pub fn story(mut rng: Rng) -> Story {
         1 => (places, 64),
         _ => (places, entries),
     };
-    let (card, chip) = sound_start(&mut rng, &cast, places, entries);
+    let (mut card, mut chip) = sound_start(&mut rng, &cast, places, entries);
+    if places == 64 && rng.percent(50) {
+        fill(&mut rng, &cast, &mut card, &mut chip);
+    }
     let (card, chip) = (card.encode(), chip.encode());
     let mut teller = Teller {
         rng,

@@ -13,8 +13,8 @@ const USAGE: &str = "usage: compare [--seed N] [--stories N] [--lists N]";
 fn options() -> Result<Options, String> {
     let mut options = Options {
         seed: 1,
-        stories: 20_000,
-        lists: 10_000,
+        stories: 40_000,
+        lists: 20_000,
     };
     let mut arguments = std::env::args().skip(1);
     while let Some(name) = arguments.next() {

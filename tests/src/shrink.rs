@@ -21,7 +21,7 @@ pub fn drop_parts<T: Clone>(mut items: Vec<T>, still: &dyn Fn(&[T]) -> bool) -> 
 
 /// Drops or empties places (or entries) of `size` bytes each.
 pub fn shorten_area(mut area: Vec<u8>, size: usize, still: &dyn Fn(&[u8]) -> bool) -> Vec<u8> {
-    if area.len() % size != 0 {
+    if !area.len().is_multiple_of(size) {
         return area;
     }
     for at in (0..area.len()).step_by(size).rev() {

@@ -200,7 +200,29 @@ pub fn report(story: &Story, found: &Mismatch, library: &dyn Library) -> String 
             ..short.clone()
         })
     });
+    for step in 0..short.steps.len() {
+        shorten_call(&mut short, step, &differs);
+    }
     tell(&short, library)
+}
+
+/// Shortens the call's long arguments to the first length that will do.
+fn shorten_call(story: &mut Story, step: usize, differs: &dyn Fn(&Story) -> bool) {
+    let Step::Call(mut call) = story.steps[step].clone() else {
+        return;
+    };
+    for argument in 0..call.long_arguments().len() {
+        for length in [0, 1, 16, 64] {
+            let mut shorter = story.clone();
+            if let Step::Call(call) = &mut shorter.steps[step] {
+                call.long_arguments()[argument].truncate(length);
+            }
+            if differs(&shorter) {
+                *story = shorter;
+                break;
+            }
+        }
+    }
 }
 
 fn tell(story: &Story, library: &dyn Library) -> String {
