@@ -4,7 +4,6 @@ use std::thread;
 
 use reference::calls::Call;
 use reference::ciphers::{self, Checked};
-use reference::generator::Step;
 use reference::library::Library;
 use reference::rng::Rng;
 use reference::stories::{self, Tally};
@@ -12,8 +11,6 @@ use reference::{edges, generator, lists};
 
 use crate::openssl;
 
-/// Whether the library has the calls for key files.
-const KEY_FILES: bool = cfg!(feature = "key-files");
 const THREADS: u64 = 2;
 /// Mismatches told in full; the rest are only counted.
 const TOLD: usize = 3;
@@ -63,9 +60,6 @@ pub fn run(library: &dyn Library, options: &Options) -> Score {
         println!("skipped openssl: the command is not installed");
     }
     for (name, checked) in edges::checks(library) {
-        if name == "edge-key-files" && !KEY_FILES {
-            continue;
-        }
         score.check(&name, checked);
     }
     run_stories(library, options, &mut score);
@@ -115,11 +109,7 @@ fn verdict(mismatches: &[String], passed: String) -> Checked {
 fn run_stories(library: &dyn Library, options: &Options, score: &mut Score) {
     let seed = options.seed;
     let (tally, mismatches) = in_parts(options.stories, &|index, tally| {
-        let mut story = generator::story(Rng::part(seed, index));
-        if !KEY_FILES {
-            let known = |step: &Step| !matches!(step, Step::Call(call) if call.kind() > 5);
-            story.steps.retain(known);
-        }
+        let story = generator::story(Rng::part(seed, index));
         let found = stories::check(&story, library, tally)?;
         let told = stories::report(&story, &found, library);
         Some(format!(
@@ -130,7 +120,7 @@ fn run_stories(library: &dyn Library, options: &Options, score: &mut Score) {
     let passed = format!("{} stories, {calls} calls", options.stories);
     score.check("stories", verdict(&mismatches, passed));
 
-    let kinds: Vec<usize> = (0..if KEY_FILES { Call::KINDS.len() } else { 6 }).collect();
+    let kinds: Vec<usize> = (0..Call::KINDS.len()).collect();
     println!("answers in the stories:\n{}", tally.table(&kinds));
     let gaps = tally.gaps(&kinds);
     let checked = if gaps.is_empty() {

@@ -86,10 +86,6 @@ extern "C" {
         name_len: usize,
         out: BytesMut,
     );
-}
-
-#[cfg(feature = "key-files")]
-extern "C" {
     fn securestore_format_key_file(
         lifetime: u32,
         kind: u32,
@@ -433,9 +429,6 @@ impl Lending {
                 self.returned[1] = next.value(UNWRITTEN, &mut self.strays);
                 number
             }
-            #[cfg(not(feature = "key-files"))]
-            _ => u32::MAX,
-            #[cfg(feature = "key-files")]
             Call::WriteKeyFile {
                 attributes,
                 material,
@@ -460,7 +453,6 @@ impl Lending {
                 self.returned[0] = count.value(UNWRITTEN, &mut self.strays);
                 number
             }
-            #[cfg(feature = "key-files")]
             Call::KeepKey {
                 key,
                 identifier,
@@ -494,7 +486,6 @@ impl Lending {
                     )
                 }
             }
-            #[cfg(feature = "key-files")]
             Call::LoadKey {
                 key, identifier, ..
             } => {
