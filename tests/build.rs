@@ -13,10 +13,8 @@ fn main() {
     let dir = env::var("SECURESTORE_LIB_DIR").unwrap_or_else(|_| DEFAULT_DIR.into());
     let root = PathBuf::from(env::var("CARGO_MANIFEST_DIR").expect("set by cargo"));
     let dir = root.join(dir);
-    println!(
-        "cargo:rerun-if-changed={}",
-        dir.join(format!("lib{LIBRARY}.a")).display()
-    );
-    println!("cargo:rustc-link-arg-bins=-L{}", dir.display());
-    println!("cargo:rustc-link-arg-bins=-l{LIBRARY}");
+    // The whole path, since a system has its own library of that short name.
+    let library = dir.join(format!("lib{LIBRARY}.a"));
+    println!("cargo:rerun-if-changed={}", library.display());
+    println!("cargo:rustc-link-arg-bins={}", library.display());
 }

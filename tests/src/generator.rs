@@ -415,7 +415,19 @@ impl Teller {
     fn identifier(&mut self, wild: bool) -> u32 {
         let chance = if wild { 30 } else { 5 };
         if self.rng.percent(chance) {
-            self.rng.pick(&BAD_IDENTIFIERS)
+            return self.rng.pick(&BAD_IDENTIFIERS);
+        }
+        let known: Vec<u32> = match self.areas() {
+            Some((card, chip)) if self.rng.percent(60) => {
+                let known = |name: &[u8]| card.find(name).is_some() || chip.find(name).is_some();
+                let identifiers = GOOD_IDENTIFIERS.into_iter();
+                let kept = |id: &u32| key_name(*id).is_some_and(|name| known(&name));
+                identifiers.filter(kept).collect()
+            }
+            _ => Vec::new(),
+        };
+        if !known.is_empty() {
+            self.rng.pick(&known)
         } else if self.rng.percent(85) {
             self.rng.pick(&self.cast.identifiers)
         } else {
