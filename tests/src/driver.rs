@@ -7,7 +7,7 @@ use reference::ciphers::{self, Checked};
 use reference::library::Library;
 use reference::rng::Rng;
 use reference::stories::{self, Tally};
-use reference::{edges, generator, lists};
+use reference::{edges, generator, lists, orders};
 
 use crate::openssl;
 
@@ -60,6 +60,9 @@ pub fn run(library: &dyn Library, options: &Options) -> Score {
         println!("skipped openssl: the command is not installed");
     }
     for (name, checked) in edges::checks(library) {
+        score.check(&name, checked);
+    }
+    for (name, checked) in orders::checks(library) {
         score.check(&name, checked);
     }
     run_stories(library, options, &mut score);

@@ -15,6 +15,7 @@ pub mod kdf;
 pub mod keyfile;
 pub mod library;
 pub mod lists;
+pub mod orders;
 pub mod record;
 pub mod rng;
 pub mod show;

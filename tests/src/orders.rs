@@ -1,0 +1,353 @@
+//! 01's order of tests for each call, written by hand: every set of faults that
+//! a call can have at once must give the number of the first in the order.
+
+use crate::area::{Card, Chip, Entry, Place, ENTRY, PLACE};
+use crate::calls::Call;
+use crate::ciphers::Checked;
+use crate::keyfile::{Attributes, KeyFile};
+use crate::library::Library;
+use crate::record::{Flags, Record};
+use crate::show;
+
+const KEY: [u8; 16] = *b"0123456789abcdef";
+const IV: [u8; 8] = *b"iv-iv-iv";
+const IDENTIFIER: u32 = 42;
+/// The known name, which is a key's too.
+const NAME: &[u8] = b"000000000000002a";
+/// Confidentiality, integrity and replay protection.
+const FLAGS: u32 = 14;
+const ATTRIBUTES: Attributes = Attributes {
+    lifetime: 1,
+    kind: 2,
+    usage: 3,
+    algorithm: 4,
+    enrollment: 5,
+};
+
+#[derive(Clone)]
+struct Scene {
+    card: Vec<u8>,
+    chip: Vec<u8>,
+    call: Call,
+}
+
+/// A number of 01 and what makes its test fail, without making good another's.
+type Fault = (u32, fn(&mut Scene));
+
+fn seal(name: &[u8], data: &[u8]) -> (Place, Entry) {
+    let flags = Flags::accept(FLAGS).expect("good flags");
+    let record = Record::seal(&KEY, name, flags, &IV, data);
+    let place = Place {
+        name: name.to_vec(),
+        record: record.encode(),
+    };
+    let entry = Entry {
+        name: name.to_vec(),
+        cmac: record.cmac,
+    };
+    (place, entry)
+}
+
+/// Three places and three entries: the known name, a free one, another name.
+fn scene(call: Call) -> Scene {
+    let file = KeyFile::new(ATTRIBUTES, b"key").expect("short material");
+    let (known, entry) = seal(NAME, &file.encode());
+    let (other, other_entry) = seal(b"other", b"data");
+    let card = Card {
+        slots: vec![Some(known), None, Some(other)],
+    };
+    let chip = Chip {
+        slots: vec![Some(entry), None, Some(other_entry)],
+    };
+    Scene {
+        card: card.encode(),
+        chip: chip.encode(),
+        call,
+    }
+}
+
+const CARD_LENGTH: Fault = (1, |scene| scene.card.push(0));
+const CHIP_LENGTH: Fault = (1, |scene| scene.chip.push(0));
+const KEY_LENGTH: Fault = (1, |scene| match &mut scene.call {
+    Call::Set { key, .. }
+    | Call::Get { key, .. }
+    | Call::Info { key, .. }
+    | Call::KeepKey { key, .. }
+    | Call::LoadKey { key, .. } => key.push(0),
+    _ => unreachable!("lent no key"),
+});
+const IV_LENGTH: Fault = (1, |scene| match &mut scene.call {
+    Call::Set { iv, .. } | Call::KeepKey { iv, .. } => iv.truncate(7),
+    _ => unreachable!("lent no IV"),
+});
+const BUFFER_LENGTH: Fault = (1, |scene| match &mut scene.call {
+    Call::Walk { name_buffer, .. } => name_buffer.truncate(63),
+    Call::WriteKeyFile { key_buffer, .. } | Call::LoadKey { key_buffer, .. } => {
+        key_buffer.truncate(479)
+    }
+    _ => unreachable!("lent no such buffer"),
+});
+// The other name's slots are damaged, so that the known one is still found.
+const CARD_DAMAGED: Fault = (2, |scene| scene.card[3 * PLACE - 1] = 1);
+const CHIP_DAMAGED: Fault = (2, |scene| scene.chip[2 * ENTRY] = 2);
+const BAD_NAME: Fault = (3, |scene| match &mut scene.call {
+    Call::Set { name, .. }
+    | Call::Get { name, .. }
+    | Call::Info { name, .. }
+    | Call::Remove { name }
+    | Call::Walk { prefix: name, .. } => name.push(b' '),
+    Call::KeepKey { identifier, .. } | Call::LoadKey { identifier, .. } => *identifier = 0,
+    _ => unreachable!("no name"),
+});
+const BAD_FLAGS: Fault = (4, |scene| *flags(&mut scene.call) |= 16);
+const DATA_TOO_LONG: Fault = (5, |scene| {
+    if let Call::Set { data, .. } = &mut scene.call {
+        data.resize(481, 1);
+    }
+});
+const REVISION: Fault = (8, |scene| scene.card[68 + 2] = 2);
+const OLD_WRITE_ONCE: Fault = (7, |scene| scene.card[68 + 8] |= 1);
+const NEW_WRITE_ONCE: Fault = (7, |scene| *flags(&mut scene.call) |= 1);
+const FLAGS_DIFFER: Fault = (9, |scene| *flags(&mut scene.call) ^= 2);
+const WRITE_ONCE_ON_CHIP: Fault = (7, |scene| {
+    *flags(&mut scene.call) |= 1;
+    put_entry(scene, new_name(&scene.call));
+});
+const NO_PLACE: Fault = (10, |scene| {
+    let mut card = Card::decode(&scene.card).expect("sound so far");
+    card.put(seal(b"third", b"").0);
+    scene.card = card.encode();
+});
+const NO_ENTRY: Fault = (10, |scene| put_entry(scene, b"third".to_vec()));
+const CMAC_WRONG: Fault = (11, |scene| scene.card[68 + 20] ^= 1);
+const ENTRY_DIFFERS: Fault = (12, |scene| scene.chip[ENTRY - 1] ^= 1);
+const ENTRY_ABSENT: Fault = (12, |scene| scene.chip[..ENTRY].fill(0));
+const GONE_FROM_CARD: Fault = (12, |scene| scene.card[..PLACE].fill(0));
+const NOT_FOUND: Fault = (6, |scene| {
+    scene.card[..PLACE].fill(0);
+    scene.chip[..ENTRY].fill(0);
+});
+const NOT_ON_CARD: Fault = (6, |scene| scene.card[..PLACE].fill(0));
+const START_BEYOND: Fault = (6, |scene| {
+    if let Call::Walk { start, .. } = &mut scene.call {
+        *start = 3;
+    }
+});
+const OFFSET_BEYOND: Fault = (14, |scene| {
+    if let Call::Get { offset, .. } = &mut scene.call {
+        *offset = 40;
+    }
+});
+const NOT_A_KEY_FILE: Fault = (13, |scene| {
+    let (place, entry) = seal(NAME, b"no key file");
+    let mut card = Card::decode(&scene.card).expect("sound so far");
+    let mut chip = Chip::decode(&scene.chip).expect("sound so far");
+    card.put(place);
+    chip.put(entry);
+    (scene.card, scene.chip) = (card.encode(), chip.encode());
+});
+const MATERIAL_TOO_LONG: Fault = (13, |scene| match &mut scene.call {
+    Call::WriteKeyFile { material, .. } | Call::KeepKey { material, .. } => material.resize(445, 1),
+    _ => unreachable!("no material"),
+});
+
+fn flags(call: &mut Call) -> &mut u32 {
+    match call {
+        Call::Set { flags, .. } | Call::KeepKey { flags, .. } => flags,
+        _ => unreachable!("no flags"),
+    }
+}
+
+/// The name that the call for a new name gives.
+fn new_name(call: &Call) -> Vec<u8> {
+    match call {
+        Call::Set { .. } => b"new".to_vec(),
+        _ => b"0000000000000001".to_vec(),
+    }
+}
+
+fn put_entry(scene: &mut Scene, name: Vec<u8>) {
+    let mut chip = Chip::decode(&scene.chip).expect("sound so far");
+    let cmac = [7; 16];
+    chip.put(Entry { name, cmac });
+    scene.chip = chip.encode();
+}
+
+/// Tries every set of the faults. They are made last first, so that those of the
+/// record come before its damage.
+fn order(library: &dyn Library, call: &Call, faults: &[Fault]) -> Result<usize, String> {
+    for set in 0..1_usize << faults.len() {
+        let chosen = || faults.iter().enumerate().filter(|(i, _)| set >> i & 1 == 1);
+        let mut scene = scene(call.clone());
+        for (_, (_, spoil)) in chosen().rev() {
+            spoil(&mut scene);
+        }
+        let expected = chosen().next().map_or(0, |(_, (number, _))| *number);
+        let got = library.call(&scene.card, &scene.chip, &scene.call);
+        let answer = got.answer;
+        let unchanged = answer.card == scene.card
+            && answer.chip == scene.chip
+            && answer.output == scene.call.output()
+            && answer.returned == [0; 2];
+        if answer.number != expected || !got.strays.is_empty() || expected != 0 && !unchanged {
+            let numbers: Vec<u32> = chosen().map(|(_, (number, _))| *number).collect();
+            return Err(format!(
+                "{}: faults {numbers:?}, got {}, unchanged {unchanged}, strays {:?}",
+                show::call(&scene.call),
+                answer.number,
+                got.strays
+            ));
+        }
+    }
+    Ok(1 << faults.len())
+}
+
+fn orders() -> Vec<(&'static str, Call, Vec<Fault>)> {
+    let set = |name: &[u8]| Call::Set {
+        key: KEY.to_vec(),
+        name: name.to_vec(),
+        flags: FLAGS,
+        iv: IV.to_vec(),
+        data: b"data".to_vec(),
+    };
+    let keep = |identifier| Call::KeepKey {
+        key: KEY.to_vec(),
+        identifier,
+        attributes: ATTRIBUTES,
+        material: b"other".to_vec(),
+        flags: FLAGS,
+        iv: IV.to_vec(),
+    };
+    let get = Call::Get {
+        key: KEY.to_vec(),
+        name: NAME.to_vec(),
+        offset: 0,
+        output: vec![0xee; 8],
+    };
+    let info = Call::Info {
+        key: KEY.to_vec(),
+        name: NAME.to_vec(),
+    };
+    let load = Call::LoadKey {
+        key: KEY.to_vec(),
+        identifier: IDENTIFIER,
+        key_buffer: vec![0xee; 480],
+    };
+    let remove = Call::Remove {
+        name: NAME.to_vec(),
+    };
+    let walk = Call::Walk {
+        prefix: b"0".to_vec(),
+        start: 0,
+        name_buffer: vec![0xee; 64],
+    };
+    let write = Call::WriteKeyFile {
+        attributes: ATTRIBUTES,
+        material: b"key".to_vec(),
+        key_buffer: vec![0xee; 480],
+    };
+
+    let areas = [
+        CARD_LENGTH,
+        CHIP_LENGTH,
+        CARD_DAMAGED,
+        CHIP_DAMAGED,
+        BAD_NAME,
+    ];
+    let keyed = [
+        KEY_LENGTH,
+        CARD_LENGTH,
+        CHIP_LENGTH,
+        CARD_DAMAGED,
+        CHIP_DAMAGED,
+        BAD_NAME,
+    ];
+    let sets = [&[IV_LENGTH][..], &keyed, &[BAD_FLAGS]].concat();
+    let stored = [REVISION, OLD_WRITE_ONCE, NEW_WRITE_ONCE, FLAGS_DIFFER];
+    let full = [NO_PLACE, NO_ENTRY];
+    let on_chip = [WRITE_ONCE_ON_CHIP, NO_PLACE];
+    let read = [REVISION, CMAC_WRONG, ENTRY_DIFFERS];
+    let one = |first: &[Fault], then: &[Fault]| [first, then].concat();
+    let set_tests = one(&sets, &[DATA_TOO_LONG]);
+    let keep_tests = one(&[MATERIAL_TOO_LONG], &sets);
+    let load_tests = one(&[BUFFER_LENGTH], &keyed);
+    vec![
+        ("set-known", set(NAME), one(&set_tests, &stored)),
+        ("set-new", set(b"new"), one(&set_tests, &full)),
+        ("set-on-chip", set(b"new"), one(&set_tests, &on_chip)),
+        (
+            "get",
+            get.clone(),
+            [&keyed, &read[..], &[OFFSET_BEYOND]].concat(),
+        ),
+        (
+            "get-unkept",
+            get.clone(),
+            [&keyed[..], &[ENTRY_ABSENT, OFFSET_BEYOND]].concat(),
+        ),
+        (
+            "get-gone",
+            get.clone(),
+            [&keyed[..], &[GONE_FROM_CARD, OFFSET_BEYOND]].concat(),
+        ),
+        (
+            "get-absent",
+            get,
+            [&keyed[..], &[NOT_FOUND, OFFSET_BEYOND]].concat(),
+        ),
+        ("info", info.clone(), one(&keyed, &read)),
+        ("info-gone", info.clone(), one(&keyed, &[GONE_FROM_CARD])),
+        ("info-absent", info, one(&keyed, &[NOT_FOUND])),
+        (
+            "remove",
+            remove.clone(),
+            one(&areas, &[REVISION, OLD_WRITE_ONCE]),
+        ),
+        ("remove-absent", remove, one(&areas, &[NOT_ON_CARD])),
+        ("reset", Call::Reset, vec![CARD_LENGTH, CHIP_LENGTH]),
+        (
+            "walk",
+            walk,
+            [&[BUFFER_LENGTH][..], &areas, &[START_BEYOND]].concat(),
+        ),
+        ("write", write, vec![BUFFER_LENGTH, MATERIAL_TOO_LONG]),
+        ("keep-known", keep(IDENTIFIER), one(&keep_tests, &stored)),
+        ("keep-new", keep(1), one(&keep_tests, &full)),
+        ("keep-on-chip", keep(1), one(&keep_tests, &on_chip)),
+        (
+            "load",
+            load.clone(),
+            [&load_tests, &read[..], &[NOT_A_KEY_FILE]].concat(),
+        ),
+        (
+            "load-gone",
+            load.clone(),
+            one(&load_tests, &[GONE_FROM_CARD]),
+        ),
+        ("load-absent", load, one(&load_tests, &[NOT_FOUND])),
+    ]
+}
+
+pub fn checks(library: &dyn Library) -> Vec<(String, Checked)> {
+    orders()
+        .into_iter()
+        .map(|(name, call, faults)| {
+            let checked = order(library, &call, &faults);
+            let checked = checked.map(|sets| format!("{sets} sets of {} faults", faults.len()));
+            (format!("order-{name}"), checked)
+        })
+        .collect()
+}
+
+#[cfg(test)]
+mod tests {
+    use super::*;
+    use crate::library::Reference;
+
+    #[test]
+    fn the_reference_keeps_the_orders() {
+        for (name, checked) in checks(&Reference) {
+            assert!(checked.is_ok(), "{name}: {checked:?}");
+        }
+    }
+}
