@@ -6,7 +6,8 @@ use reference::calls::Call;
 use reference::ciphers::{self, Checked};
 use reference::library::Library;
 use reference::rng::Rng;
-use reference::stories::{self, Tally};
+use reference::stories;
+use reference::tally::{Tally, NUMBERS};
 use reference::{edges, generator, lists, orders};
 
 use crate::openssl;
@@ -150,7 +151,7 @@ fn run_lists(library: &dyn Library, options: &Options, score: &mut Score) {
 
     println!("answers in the lists:\n{}", tally.table(&[0, 1, 2, 3]));
     let gaps: Vec<String> = (0..4)
-        .flat_map(|kind| (0..stories::NUMBERS).map(move |number| (kind, number)))
+        .flat_map(|kind| (0..NUMBERS).map(move |number| (kind, number)))
         .filter(|(kind, number)| {
             let due = lists::numbers(Call::KINDS[*kind]).contains(number);
             due != (tally.number(*kind, *number) > 0)

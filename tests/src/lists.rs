@@ -11,13 +11,13 @@ use std::collections::BTreeSet;
 use crate::area::{good_name, Area, Card, Chip, Slot, ENTRY, PLACE};
 use crate::book::{Answer, Book, Contents};
 use crate::calls::{self, Call};
-use crate::generator::{self, Cast};
+use crate::cast::{self, Cast};
 use crate::library::Library;
 use crate::record::Record;
 use crate::rng::Rng;
 use crate::show;
 use crate::shrink::{drop_parts, shorten_area};
-use crate::stories::Tally;
+use crate::tally::Tally;
 
 /// A merge: each call with the list it comes from.
 #[derive(Clone)]
@@ -39,7 +39,7 @@ fn name_of(call: &Call) -> &[u8] {
 
 pub fn merge(mut rng: Rng) -> Merge {
     let cast = Cast::new(&mut rng);
-    let (card, chip) = generator::sound_start(&mut rng, &cast, 24, 24);
+    let (card, chip) = cast::sound_start(&mut rng, &cast, 24, 24);
     let sides = sides(&mut rng, &cast);
     // Each list is made along its own book, so that its calls suit it.
     let start = Book::of(&card, &chip);
@@ -60,7 +60,7 @@ pub fn merge(mut rng: Rng) -> Merge {
 
 /// The names of each list: parted, bad ones too.
 fn sides(rng: &mut Rng, cast: &Cast) -> [Vec<Vec<u8>>; 2] {
-    let bad: BTreeSet<Vec<u8>> = (0..2).map(|_| generator::hostile_name(rng)).collect();
+    let bad: BTreeSet<Vec<u8>> = (0..2).map(|_| cast::hostile_name(rng)).collect();
     let mut sides = [Vec::new(), Vec::new()];
     for name in cast.names.iter().cloned().chain(bad) {
         sides[rng.below(2)].push(name);
@@ -104,7 +104,7 @@ fn list_call(rng: &mut Rng, cast: &Cast, name: Vec<u8>, book: &Book) -> Call {
     match rng.below(10) {
         0..=4 => {
             let old = old.map(|record| record.flags.bits());
-            let mut data = generator::data(rng);
+            let mut data = cast::data(rng);
             if rng.percent(4) {
                 data.resize(481, 0);
             }
@@ -115,7 +115,7 @@ fn list_call(rng: &mut Rng, cast: &Cast, name: Vec<u8>, book: &Book) -> Call {
                 flags: if rng.percent(4) {
                     8
                 } else {
-                    generator::flags(rng, old)
+                    cast::flags(rng, old)
                 },
                 iv: rng.bytes(iv_length),
                 data,
@@ -126,8 +126,8 @@ fn list_call(rng: &mut Rng, cast: &Cast, name: Vec<u8>, book: &Book) -> Call {
             Call::Get {
                 key,
                 name,
-                offset: generator::offset(rng, size),
-                output: generator::output(rng, size),
+                offset: cast::offset(rng, size),
+                output: cast::output(rng, size),
             }
         }
         8 => Call::Info { key, name },
