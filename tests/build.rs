@@ -5,15 +5,15 @@ use std::env;
 use std::path::PathBuf;
 
 /// The library file is `lib{LIBRARY}.a`.
-const LIBRARY: &str = "ffi";
-const DEFAULT_DIR: &str = "../target/staticlib";
+const LIBRARY: &str = "securestore";
+const DEFAULT_DIR: &str = "../target/lib";
 
 fn main() {
     println!("cargo:rerun-if-env-changed=SECURESTORE_LIB_DIR");
     let dir = env::var("SECURESTORE_LIB_DIR").unwrap_or_else(|_| DEFAULT_DIR.into());
     let root = PathBuf::from(env::var("CARGO_MANIFEST_DIR").expect("set by cargo"));
     let dir = root.join(dir);
-    // The whole path, since a system has its own library of that short name.
+    // The whole path, so that no other library of that name is taken.
     let library = dir.join(format!("lib{LIBRARY}.a"));
     println!("cargo:rerun-if-changed={}", library.display());
     println!("cargo:rustc-link-arg-bins={}", library.display());

@@ -10,29 +10,22 @@ const fn xtime(a: u8) -> u8 {
     (a << 1) ^ (if a & 0x80 != 0 { 0x1b } else { 0 })
 }
 
-/// Multiplication in the field, by adding the shifts of `a` that `b` names.
-const fn times(a: u8, b: u8) -> u8 {
-    let (mut shifted, mut sum, mut bit) = (a, 0, 0);
-    while bit < 8 {
-        if b >> bit & 1 == 1 {
-            sum ^= shifted;
-        }
-        shifted = xtime(shifted);
-        bit += 1;
+/// The inverse: 3 generates the field, so its powers k and 255 - k are inverse
+/// to each other; 0 goes to 0.
+const fn inverses() -> [u8; 256] {
+    let mut powers = [1; 256];
+    let mut k = 1;
+    while k < 256 {
+        powers[k] = powers[k - 1] ^ xtime(powers[k - 1]);
+        k += 1;
     }
-    sum
-}
-
-/// The inverse, by search: the product with it is 1; 0 goes to 0.
-const fn inverse(a: u8) -> u8 {
-    let mut b: u8 = 255;
-    while b > 0 {
-        if times(a, b) == 1 {
-            return b;
-        }
-        b -= 1;
+    let mut table = [0; 256];
+    k = 0;
+    while k < 255 {
+        table[powers[k] as usize] = powers[255 - k];
+        k += 1;
     }
-    0
+    table
 }
 
 /// The affine step (FIPS 197, 5.1.1, equation 5.1).
@@ -41,10 +34,10 @@ const fn affine(b: u8) -> u8 {
 }
 
 static SBOX: [u8; 256] = {
-    let mut table = [0; 256];
+    let mut table = inverses();
     let mut a = 0;
     while a < 256 {
-        table[a] = affine(inverse(a as u8));
+        table[a] = affine(table[a]);
         a += 1;
     }
     table

@@ -111,7 +111,7 @@ impl<S: Slot> Area<S> {
     }
 
     pub fn right_length(bytes: &[u8]) -> bool {
-        bytes.len().is_multiple_of(S::SIZE) && (1..=SLOTS_MAX).contains(&(bytes.len() / S::SIZE))
+        bytes.len() % S::SIZE == 0 && (1..=SLOTS_MAX).contains(&(bytes.len() / S::SIZE))
     }
 
     /// The places or entries of bytes of right length, or `None` for damage.
@@ -168,7 +168,7 @@ impl<S: Slot> Area<S> {
 
     pub fn take_out(&mut self, name: &[u8]) {
         for slot in &mut self.slots {
-            if slot.as_ref().is_some_and(|slot| slot.name() == name) {
+            if slot.as_ref().map_or(false, |slot| slot.name() == name) {
                 *slot = None;
             }
         }

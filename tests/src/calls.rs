@@ -264,11 +264,14 @@ fn set(
 /// The record that a get may read: all its tests but the offset's.
 fn readable(card: &Card, chip: &Chip, key: &Block, name: &[u8]) -> Result<Record, Why> {
     let entry = chip.find(name);
-    let Some(place) = card.find(name) else {
-        return Err(match entry {
-            Some(_) => Why::GoneFromCard,
-            None => Why::NotFound,
-        });
+    let place = match card.find(name) {
+        Some(place) => place,
+        None => {
+            return Err(match entry {
+                Some(_) => Why::GoneFromCard,
+                None => Why::NotFound,
+            })
+        }
     };
     let record = Record::decode(&place.record).ok_or(Why::NotWellFormed)?;
     check(record.authentic(key, name), Why::CmacWrong)?;

@@ -173,7 +173,7 @@ impl Teller {
             Some((card, chip)) if self.rng.percent(60) => {
                 let known = |name: &[u8]| card.find(name).is_some() || chip.find(name).is_some();
                 let identifiers = GOOD_IDENTIFIERS.into_iter();
-                let kept = |id: &u32| key_name(*id).is_some_and(|name| known(&name));
+                let kept = |id: &u32| key_name(*id).map_or(false, |name| known(&name));
                 identifiers.filter(kept).collect()
             }
             _ => Vec::new(),

@@ -53,7 +53,7 @@ impl KeyFile {
 
     /// `None` for what is not a key file.
     pub fn decode(file: &[u8]) -> Option<KeyFile> {
-        let (header, material) = file.split_at_checked(HEADER)?;
+        let (header, material) = (file.get(..HEADER)?, &file[HEADER..]);
         let number = |at: usize| u32::from_le_bytes(std::array::from_fn(|i| header[at + i]));
         let attributes = Attributes {
             lifetime: number(12),

@@ -206,8 +206,9 @@ fn final_contents(
     card: &[u8],
     chip: &[u8],
 ) -> Option<String> {
-    let (Some(card), Some(chip)) = (Card::decode(card), Chip::decode(chip)) else {
-        return Some("the final card or chip is damaged".into());
+    let (card, chip) = match (Card::decode(card), Chip::decode(chip)) {
+        (Some(card), Some(chip)) => (card, chip),
+        _ => return Some("the final card or chip is damaged".into()),
     };
     let end = Book::of(&card, &chip);
     let called = merge.calls.iter().map(|(_, call)| name_of(call).to_vec());

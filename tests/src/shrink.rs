@@ -2,7 +2,7 @@
 
 /// Drops parts of the list, halves first and then ever smaller ones.
 pub fn drop_parts<T: Clone>(mut items: Vec<T>, still: &dyn Fn(&[T]) -> bool) -> Vec<T> {
-    let mut size = items.len().div_ceil(2);
+    let mut size = (items.len() + 1) / 2;
     while size > 0 {
         let mut at = 0;
         while at < items.len() {
@@ -21,7 +21,7 @@ pub fn drop_parts<T: Clone>(mut items: Vec<T>, still: &dyn Fn(&[T]) -> bool) -> 
 
 /// Drops or empties places (or entries) of `size` bytes each.
 pub fn shorten_area(mut area: Vec<u8>, size: usize, still: &dyn Fn(&[u8]) -> bool) -> Vec<u8> {
-    if !area.len().is_multiple_of(size) {
+    if area.len() % size != 0 {
         return area;
     }
     for at in (0..area.len()).step_by(size).rev() {

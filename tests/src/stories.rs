@@ -108,8 +108,9 @@ pub fn report(story: &Story, found: &Mismatch, library: &dyn Library) -> String 
 
 /// Shortens the call's long arguments to the first length that will do.
 fn shorten_call(story: &mut Story, step: usize, differs: &dyn Fn(&Story) -> bool) {
-    let Step::Call(mut call) = story.steps[step].clone() else {
-        return;
+    let mut call = match story.steps[step].clone() {
+        Step::Call(call) => call,
+        _ => return,
     };
     for argument in 0..call.long_arguments().len() {
         for length in [0, 1, 16, 64] {

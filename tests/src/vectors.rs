@@ -1,4 +1,4 @@
-//! The published vectors under `vectors/`: one a line, fields parted by tabs,
+//! The published vectors that the product runs too: one a line, fields parted by tabs,
 //! hex, `-` for an empty field, the first line naming the columns.
 
 use crate::aes::Block;
@@ -39,7 +39,7 @@ impl Row {
 
 /// The rows of a file, never none.
 pub fn rows(file: &str) -> Vec<Row> {
-    let path = concat!(env!("CARGO_MANIFEST_DIR"), "/vectors/").to_string() + file;
+    let path = concat!(env!("CARGO_MANIFEST_DIR"), "/../crates/vectors/data/").to_string() + file;
     let text = std::fs::read_to_string(&path).unwrap_or_else(|why| panic!("{path}: {why}"));
     let rows: Vec<Row> = text
         .lines()
