@@ -32,7 +32,7 @@ fn refused(pos: usize) -> Field
     }
 }
 
-pub fn mark_at(file: &[u8], pos: usize) -> Field
+pub(crate) fn mark_at(file: &[u8], pos: usize) -> Field
     ensures { λ r. ⌜ r ≡ markAt (now (file .entry)) pos ⌝ }
 {
     if !has_bytes(file, pos, 8) {
@@ -49,7 +49,7 @@ pub fn mark_at(file: &[u8], pos: usize) -> Field
     }
 }
 
-pub fn field_at(file: &[u8], pos: usize) -> Field
+pub(crate) fn field_at(file: &[u8], pos: usize) -> Field
     ensures { λ r. ⌜ r ≡ fieldAt (now (file .entry)) pos ⌝ }
 {
     if !has_bytes(file, pos, 4) {
@@ -62,7 +62,7 @@ pub fn field_at(file: &[u8], pos: usize) -> Field
     }
 }
 
-pub fn bytes_at(file: &[u8], pos: usize, n: usize) -> Field
+pub(crate) fn bytes_at(file: &[u8], pos: usize, n: usize) -> Field
     ensures { λ r. ⌜ r ≡ bytesAt (now (file .entry)) pos n ⌝ }
 {
     if !has_bytes(file, pos, n) {
@@ -75,7 +75,7 @@ pub fn bytes_at(file: &[u8], pos: usize, n: usize) -> Field
     }
 }
 
-pub fn part_at(file: &[u8], pos: usize, n: usize) -> &[u8]
+pub(crate) fn part_at(file: &[u8], pos: usize, n: usize) -> &[u8]
     ensures { λ r. ⌜ now r ≡ partAt (now (file .entry)) pos n ⌝ }
 {
     if !has_bytes(file, pos, n) {

@@ -6,7 +6,7 @@ use crate::parse;
 ghost use mathlib.Core.Path.{_≡_};
 ghost use lib.ListN.{drop};
 ghost use Rattle.keys.specs.KeyFile.{parseKeyFile};
-ghost use Rattle.keys.specs.Reader.{markAt, fieldAt, bytesAt, partAt};
+ghost use Rattle.keys.specs.Reader.{takenOf, markAt, fieldAt, bytesAt, partAt};
 
 pub struct KeyFileReader<'a> {
     pub file: &'a [u8],
@@ -19,36 +19,51 @@ pub fn new<'a>(file: &'a [u8]) -> KeyFileReader<'a>
     KeyFileReader { file, pos: 0 }
 }
 
-// On a refusal the field's place is the one given, so the reader stays as it was.
-pub fn take_field<'s, 'a>(r: &'s mut KeyFileReader<'a>) -> fields::Field
-    ensures { λ f. ⌜ (f ≡ fieldAt (now (now (r .entry) .file)) (now (r .entry) .pos)) × (now (r .exit) .file ≡ now (r .entry) .file) × (now (r .exit) .pos ≡ f .pos) ⌝ }
-{
-    let f = fields::field_at(r.file, r.pos);
-    r.pos = f.pos;
-    f
+// What a step answers; a refusal has 0 for the value.
+pub struct Taken {
+    pub status: u32,
+    pub value: u32,
 }
 
-pub fn take_mark<'s, 'a>(r: &'s mut KeyFileReader<'a>) -> fields::Field
-    ensures { λ f. ⌜ (f ≡ markAt (now (now (r .entry) .file)) (now (r .entry) .pos)) × (now (r .exit) .file ≡ now (r .entry) .file) × (now (r .exit) .pos ≡ f .pos) ⌝ }
+// The material as part of the lent file, and the number; a refusal has the empty part.
+pub struct KeyMaterial<'a> {
+    pub bytes: &'a [u8],
+    pub status: u32,
+}
+
+// On a refusal the field's place is the one given, so the reader stays as it was.
+pub fn take_mark<'s, 'a>(r: &'s mut KeyFileReader<'a>) -> Taken
+    ensures { λ t. ⌜ (t ≡ takenOf (markAt (now (now (r .entry) .file)) (now (r .entry) .pos))) × (now (r .exit) .file ≡ now (r .entry) .file) × (now (r .exit) .pos ≡ markAt (now (now (r .entry) .file)) (now (r .entry) .pos) .pos) ⌝ }
 {
     let f = fields::mark_at(r.file, r.pos);
     r.pos = f.pos;
-    f
+    Taken {
+        status: f.status,
+        value: f.value,
+    }
 }
 
-pub fn take_bytes<'s, 'a>(r: &'s mut KeyFileReader<'a>, n: usize) -> fields::Field
-    ensures { λ f. ⌜ (f ≡ bytesAt (now (now (r .entry) .file)) (now (r .entry) .pos) n) × (now (r .exit) .file ≡ now (r .entry) .file) × (now (r .exit) .pos ≡ f .pos) ⌝ }
+pub fn take_field<'s, 'a>(r: &'s mut KeyFileReader<'a>) -> Taken
+    ensures { λ t. ⌜ (t ≡ takenOf (fieldAt (now (now (r .entry) .file)) (now (r .entry) .pos))) × (now (r .exit) .file ≡ now (r .entry) .file) × (now (r .exit) .pos ≡ fieldAt (now (now (r .entry) .file)) (now (r .entry) .pos) .pos) ⌝ }
 {
+    let f = fields::field_at(r.file, r.pos);
+    r.pos = f.pos;
+    Taken {
+        status: f.status,
+        value: f.value,
+    }
+}
+
+pub fn take_material<'s, 'a>(r: &'s mut KeyFileReader<'a>, n: usize) -> KeyMaterial<'a>
+    ensures { λ m. ⌜ (now (m .bytes) ≡ partAt (now (now (r .entry) .file)) (now (r .entry) .pos) n) × (m .status ≡ bytesAt (now (now (r .entry) .file)) (now (r .entry) .pos) n .status) × (now (r .exit) .file ≡ now (r .entry) .file) × (now (r .exit) .pos ≡ bytesAt (now (now (r .entry) .file)) (now (r .entry) .pos) n .pos) ⌝ }
+{
+    let bytes = fields::part_at(r.file, r.pos, n);
     let f = fields::bytes_at(r.file, r.pos, n);
     r.pos = f.pos;
-    f
-}
-
-// The material, as part of the lent bytes; the empty part where it is refused.
-pub fn material<'a>(r: KeyFileReader<'a>, n: usize) -> &'a [u8]
-    ensures { λ s. ⌜ now s ≡ partAt (now (r .entry .file)) (r .entry .pos) n ⌝ }
-{
-    fields::part_at(r.file, r.pos, n)
+    KeyMaterial {
+        bytes,
+        status: f.status,
+    }
 }
 
 // The whole file from the reader's place on.
