@@ -66,16 +66,16 @@ static void list_names(void)
 static void play(uint8_t *copy)
 {
     char text[SECURESTORE_DATA_MAX + 1];
-    printf("Afternoon: card and chip are cleared, and two players sit down.\n");
+    printf("Sound check: card and chip are cleared, and two players have their mixes stored.\n");
     check(securestore_reset(card, sizeof card, chip, sizeof chip) == SECURESTORE_OK, "reset");
-    check(set("player/1", "100 chips") == SECURESTORE_OK, "set player/1");
-    check(set("player/2", "100 chips") == SECURESTORE_OK, "set player/2");
+    check(set("player/1", "sends: cello 3.0, piano 1.0") == SECURESTORE_OK, "set player/1");
+    check(set("player/2", "sends: cello 3.0, piano 1.0") == SECURESTORE_OK, "set player/2");
     list_names();
     printf("Someone copies the card.\n");
     memcpy(copy, card, sizeof card);
-    printf("Night: player/1 loses.\n");
-    check(set("player/1", "3 chips") == SECURESTORE_OK, "set player/1 again");
-    check(read_from(card, "player/1", text, sizeof text) == SECURESTORE_OK && strcmp(text, "3 chips") == 0, "the new record is read");
+    printf("Rehearsal: player/1 asks for another mix.\n");
+    check(set("player/1", "sends: cello 3.5, piano 0.5") == SECURESTORE_OK, "set player/1 again");
+    check(read_from(card, "player/1", text, sizeof text) == SECURESTORE_OK && strcmp(text, "sends: cello 3.5, piano 0.5") == 0, "the new record is read");
 }
 
 static void put_back(uint8_t *copy)
@@ -89,7 +89,7 @@ static void put_back(uint8_t *copy)
           "so is the question for its size and flags");
     check(data_size == 0 && flags == 0, "a refusal gives zeros");
     printf("player/2 was not set since, so its record is the one that the chip knows:\n");
-    check(read_from(copy, "player/2", text, sizeof text) == SECURESTORE_OK && strcmp(text, "100 chips") == 0, "player/2 is read");
+    check(read_from(copy, "player/2", text, sizeof text) == SECURESTORE_OK && strcmp(text, "sends: cello 3.0, piano 1.0") == 0, "player/2 is read");
     printf("An empty card is no way out either:\n");
     memset(copy, 0, sizeof card);
     check(read_from(copy, "player/1", text, sizeof text) == SECURESTORE_ERR_ROLLBACK, "a missing record that the chip knows is refused with 12");

@@ -3,6 +3,7 @@ mod buf;
 mod calls;
 mod damage;
 mod iterate;
+mod key_files;
 mod night;
 mod order;
 mod print;
@@ -20,6 +21,7 @@ fn main() {
     room::run();
     damage::run();
     iterate::run();
+    key_files::run();
     wrong::run();
     night::run();
 }
