@@ -5,6 +5,7 @@ pub mod Written
 pub mod Loaded
 pub mod ReaderWalk
 pub mod ReaderTake
+pub mod ReaderStep
 pub mod FileLaws
 pub mod Names
 pub mod CallLaws

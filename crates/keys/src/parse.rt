@@ -3,6 +3,7 @@ use crate::fields;
 use crate::key_file;
 use crate::key_file::KeyAttributes;
 use crate::key_file::KeyFile;
+use crate::reader;
 use store::status;
 ghost use mathlib.Core.Path.{_≡_};
 ghost use lib.ListN.{drop};
@@ -17,17 +18,19 @@ pub struct Header {
     pub end: usize,
 }
 
+// Step by step through the reader. The answer to the mark is not needed: the place tells.
 fn read_header(file: &[u8]) -> Header
     ensures { λ r. ⌜ r ≡ readHeader (now (file .entry)) ⌝ }
 {
-    let mark = fields::mark_at(file, 0);
-    let version = fields::field_at(file, mark.pos);
-    let lifetime = fields::field_at(file, version.pos);
-    let key_type = fields::field_at(file, lifetime.pos);
-    let usage = fields::field_at(file, key_type.pos);
-    let alg = fields::field_at(file, usage.pos);
-    let enrollment_alg = fields::field_at(file, alg.pos);
-    let material_len = fields::field_at(file, enrollment_alg.pos);
+    let mut r = reader::new(file);
+    let mark = reader::take_mark(&mut r);
+    let version = reader::take_field(&mut r);
+    let lifetime = reader::take_field(&mut r);
+    let key_type = reader::take_field(&mut r);
+    let usage = reader::take_field(&mut r);
+    let alg = reader::take_field(&mut r);
+    let enrollment_alg = reader::take_field(&mut r);
+    let material_len = reader::take_field(&mut r);
     Header {
         version: version.value,
         attributes: KeyAttributes {
@@ -38,7 +41,7 @@ fn read_header(file: &[u8]) -> Header
             enrollment_alg: enrollment_alg.value,
         },
         material_len: material_len.value,
-        end: material_len.pos,
+        end: r.pos,
     }
 }
 
