@@ -1,17 +1,27 @@
 /* securestore: named records over a removable card and a small protected chip. Link libsecurestore.a, which needs memcpy and memset and nothing else.
  *
- * The library keeps nothing between calls, allocates nothing and does no input or output. The caller reads card and chip into two buffers, lends them
- * to a call, and writes them back after a call that answered SECURESTORE_OK and may have changed them.
+ * The library keeps nothing between calls, allocates nothing and does no input or output. The caller reads the card (kv) and the chip (rbp) into two
+ * buffers, lends them to a call, and writes both back after a set, save_key, remove or reset that answered SECURESTORE_OK. No call needs 8 kB of
+ * stack; what a call leaves there, plaintext and derived keys among it, is not wiped.
  *
  * Pointers. The library is proved for lent memory, and what makes memory lent is the caller's part:
  * - no pointer is null, also where its length is 0;
  * - each is valid for its length (or for the size in its declaration), for writing where it is not const, and aligned for its type;
+ * - a length is that of an object, at most half the address space;
  * - memory that a call may write overlaps nothing else that is lent to the same call;
  * - nobody else uses lent memory while the call runs.
- * Nothing is asked of the contents, the lengths or the numbers: every value has an answer.
+ * Nothing else is asked: any contents, any smaller or larger buffer and any number has an answer.
  *
  * Answers. A store call returns one of the numbers below, that of the first test that fails in the order given at the call. A refusal changes no lent
- * buffer and writes 0 through every out-number (count, data_size, flags, name_len, next_slot).
+ * buffer and writes 0 through every out-number (count, data_size, flags, name_len, next_slot, a key file's fields).
+ *
+ * Protection is what the stored record's flags ask for, and these flags are on the card. A get of a record without integrity checks no CMAC, and one of
+ * a record without replay protection does not ask the chip, also where the chip holds the name: whoever can write the card can put such a record
+ * there. A caller that relies on protection asks securestore_get_info on the same buffers for the flags and compares them before it uses the data.
+ *
+ * Power. Writing card and chip back is two writes, and the library cannot join them. After only one of the two a record with replay protection answers
+ * 12 to a get until it is set again, which works; where only the card was written a remove works, too. A write-once record with replay protection
+ * then answers 7 to a set and stays refused until a reset: keep a journal of both buffers if that matters.
  *
  * Time. Tags are compared in full, but AES works by table look-ups: its time may depend on key and data where the machine has a data cache. */
 #ifndef SECURESTORE_H
@@ -23,17 +33,17 @@
 /* Numbers that the store's calls return. */
 #define SECURESTORE_OK 0u
 #define SECURESTORE_ERR_LENGTH 1u         /* card, chip, device key, IV, name buffer or key buffer of a wrong length */
-#define SECURESTORE_ERR_CORRUPT 2u        /* card or chip is damaged */
+#define SECURESTORE_ERR_CORRUPT 2u        /* card or chip is damaged: one bad slot is enough, and only a reset recovers */
 #define SECURESTORE_ERR_INVALID_NAME 3u   /* bad name, prefix or key identifier */
 #define SECURESTORE_ERR_INVALID_FLAGS 4u  /* unknown bits, or replay protection without integrity */
 #define SECURESTORE_ERR_DATA_SIZE 5u      /* more data than a record holds */
-#define SECURESTORE_ERR_NOT_FOUND 6u      /* neither card nor chip knows the name, or no name has the prefix */
-#define SECURESTORE_ERR_ALREADY_EXISTS 7u /* a record that is written once */
+#define SECURESTORE_ERR_NOT_FOUND 6u      /* the card does not hold the name, or no name from there on has the prefix */
+#define SECURESTORE_ERR_ALREADY_EXISTS 7u /* the old or the new flags say write once, and there is something under the name */
 #define SECURESTORE_ERR_INVALID_RECORD 8u /* the stored record is not well formed */
 #define SECURESTORE_ERR_FLAGS_MISMATCH 9u /* the flags differ from the stored ones */
 #define SECURESTORE_ERR_NO_SPACE 10u      /* no free slot on the card or in the chip */
 #define SECURESTORE_ERR_AUTHENTICATION 11u /* the record's CMAC is wrong */
-#define SECURESTORE_ERR_ROLLBACK 12u      /* the chip knows another record of this name: the card is old or was changed */
+#define SECURESTORE_ERR_ROLLBACK 12u      /* the chip knows another record of this name, or none, or the card has lost it: an old or changed card */
 #define SECURESTORE_ERR_INVALID_KEY_FILE 13u /* not a key file, or more material than one holds */
 #define SECURESTORE_ERR_OFFSET 14u        /* the offset lies beyond the data */
 
@@ -55,7 +65,8 @@
 #define SECURESTORE_DATA_MAX 480u
 #define SECURESTORE_KEY_ID_MIN 1u
 #define SECURESTORE_KEY_ID_MAX 0xfffeffffu
-#define SECURESTORE_KEY_FILE_MAX 480u /* a header of 36 bytes, then the material */
+#define SECURESTORE_KEY_FILE_MAX 480u /* a header, then the material */
+#define SECURESTORE_KEY_FILE_HEADER 36u /* where the material begins */
 #define SECURESTORE_KEY_MATERIAL_MAX 444u
 
 #ifdef __cplusplus
@@ -66,7 +77,8 @@ extern "C" {
  * chip too, so both buffers must reach their media. iv must be new for every set with confidentiality under one device key.
  * Tests: 1 lengths (card, chip, key of 16, IV of 8), 2 damage, 3 name, 4 flags, 5 data over 480;
  * where the card holds the name: 8, then 7 if the old or the new flags say write once, then 9;
- * where it does not: 7 if the new flags say write once and the chip holds the name; then 10. */
+ * where it does not: 7 if the new flags say write once and the chip holds the name;
+ * then in both cases 10 if the card lacks the name and has no free slot, or replay protection is asked for, the chip lacks the name and has no free slot. */
 uint32_t securestore_set(uint8_t *kv, size_t kv_len, uint8_t *rbp, size_t rbp_len, const uint8_t *device_key, size_t device_key_len,
                          const uint8_t *name, size_t name_len, uint32_t flags, const uint8_t *iv, size_t iv_len, const uint8_t *data,
                          size_t data_len);
@@ -90,7 +102,8 @@ uint32_t securestore_remove(uint8_t *kv, size_t kv_len, uint8_t *rbp, size_t rbp
 /* Clears card and chip, whatever they hold. Tests: 1 lengths, and nothing else. */
 uint32_t securestore_reset(uint8_t *kv, size_t kv_len, uint8_t *rbp, size_t rbp_len);
 
-/* The first name with the prefix from a slot on, for walking over names: start with start_slot 0, go on with *next_slot until the answer is 6.
+/* The first name with the prefix from a slot on, for walking over names: start with start_slot 0 and go on with *next_slot while the answer is 0; 6 is
+ * the end, any other number an error (after which *next_slot is 0).
  * The name goes to the front of name_buf, the rest of it is as before; *name_len is its length, *next_slot the slot after it.
  * Tests: 1 lengths (name_buf of at least 64), 2 damage, 3 prefix (0 to 64 bytes that a name may hold), 6. No record is judged. */
 uint32_t securestore_iterator_next(const uint8_t *kv, size_t kv_len, const uint8_t *rbp, size_t rbp_len, const uint8_t *prefix,
@@ -114,6 +127,11 @@ uint32_t securestore_save_key(uint8_t *kv, size_t kv_len, uint8_t *rbp, size_t r
  * Tests: 1 lengths (key_buf of at least 480), then those of a get at offset 0; a bad identifier is 3; 13 not a key file. */
 uint32_t securestore_load_key(const uint8_t *kv, size_t kv_len, const uint8_t *rbp, size_t rbp_len, const uint8_t *device_key,
                               size_t device_key_len, uint32_t key_id, uint8_t *key_buf, size_t key_buf_len, size_t *count);
+
+/* What a key file says: its attributes, and how many bytes of material stand behind its header, from file + SECURESTORE_KEY_FILE_HEADER on.
+ * Tests: 13 for a wrong mark, another version than 0, a short header, trailing or missing bytes, or material over 444. */
+uint32_t securestore_parse_key_file(const uint8_t *file, size_t file_len, uint32_t *lifetime, uint32_t *key_type, uint32_t *usage, uint32_t *alg,
+                                    uint32_t *enrollment_alg, uint32_t *material_len);
 
 /* The ciphers below have no refusal. */
 

@@ -1,10 +1,12 @@
 // PSA key files. A key's attributes are five numbers, since C's structs have no form here.
 use keys::format;
 use keys::key_file::KeyAttributes;
+use keys::parse;
 use keys::persist;
 ghost use mathlib.Core.Path.{_≡_};
 ghost use Rattle.keys.specs.Calls as Keys;
-ghost use Rattle.ffi.specs.Answers.{written, got, attributes};
+ghost use Rattle.keys.specs.KeyFile.{parseKeyFile};
+ghost use Rattle.ffi.specs.Answers.{written, got, attributes, parsed};
 
 #[no_mangle]
 pub extern "C" fn securestore_format_key_file(
@@ -71,5 +73,29 @@ pub extern "C" fn securestore_load_key(
 {
     let answer = persist::load_persistent_key(kv, rbp, device_key, key_id, key_buf);
     *count = answer.count;
+    answer.status
+}
+
+// The file's fields; the material stands behind the header, in the lent file itself.
+#[no_mangle]
+pub extern "C" fn securestore_parse_key_file(
+    file: &[u8],
+    lifetime: &mut u32,
+    key_type: &mut u32,
+    usage: &mut u32,
+    alg: &mut u32,
+    enrollment_alg: &mut u32,
+    material_len: &mut u32,
+) -> u32
+    ensures { λ r. ⌜ parsed r (attributes (now (lifetime .exit)) (now («key_type» .exit)) (now (usage .exit)) (now (alg .exit)) (now («enrollment_alg» .exit))) (now («material_len» .exit)) ≡ parseKeyFile (now (file .entry)) ⌝ }
+{
+    let answer = parse::parse_key_file(file);
+    let read = answer.attributes;
+    *lifetime = read.lifetime;
+    *key_type = read.key_type;
+    *usage = read.usage;
+    *alg = read.alg;
+    *enrollment_alg = read.enrollment_alg;
+    *material_len = answer.material_len;
     answer.status
 }

@@ -6,7 +6,7 @@ use mathlib.Core.List.{List}
 use Prim.Native.Nat.{ℕ, zero, suc, _+_, _*_, _≤_, _<_}
 use native.Mathlib.Omega.{arith}
 use borrow.Author.Tests.{leb-true, le-leb, eqb-true, eq-eqb}
-use lib.ListN.{length, take, drop, length-drop}
+use lib.ListN.{length, take}
 use Rattle.spec.specs.Bytes.{bytesEq, u32At}
 use Rattle.spec.specs.Status.{ok}
 use Rattle.spec.proofs.Split.{split, both}
@@ -179,6 +179,3 @@ module _ (f : List ℕ) (h : Header) (e : h ≡ readHeader f) where
           whole = omega arith;
         } in
         ap (λ (x : Header). record { status = ok; attributes = x .attributes; «material_len» = x .«material_len» }) r ∙ sym (parse-done f g)
-
-pub past-end : (f : List ℕ) (p : ℕ) → length f < p → parseKeyFile (drop p f) ≡ refusedFile
-past-end f p h = parse-refused (drop p f) (λ v. omega (arith, v .header, length-drop p f))

@@ -6,7 +6,6 @@ use crate::key_file::KeyFile;
 use crate::reader;
 use store::status;
 ghost use mathlib.Core.Path.{_≡_};
-ghost use lib.ListN.{drop};
 ghost use Rattle.keys.specs.KeyFile.{refusedFile, parseKeyFile};
 ghost use Rattle.keys.specs.Reader.{readHeader};
 
@@ -61,7 +60,8 @@ fn refused() -> KeyFile
     }
 }
 
-fn parse_whole(file: &[u8]) -> KeyFile
+// What a file says, or 13.
+pub fn parse_key_file(file: &[u8]) -> KeyFile
     ensures { λ r. ⌜ r ≡ parseKeyFile (now (file .entry)) ⌝ }
 {
     let header = read_header(file);
@@ -88,15 +88,4 @@ fn parse_whole(file: &[u8]) -> KeyFile
         attributes,
         material_len: header.material_len,
     }
-}
-
-// The file that begins at a place.
-pub fn parse_from(file: &[u8], pos: usize) -> KeyFile
-    ensures { λ r. ⌜ r ≡ parseKeyFile (drop pos (now (file .entry))) ⌝ }
-{
-    if file.len() < pos {
-        return refused();
-    }
-    let end = file.len();
-    parse_whole(&file[pos..end])
 }

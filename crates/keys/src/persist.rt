@@ -3,7 +3,7 @@ use crate::format;
 use crate::key_file;
 use crate::key_file::KeyAttributes;
 use crate::key_name;
-use crate::reader;
+use crate::parse;
 use slots::buffers;
 use store::answers::Got;
 use store::get;
@@ -87,7 +87,7 @@ pub fn load_persistent_key(
         return refused(found.status);
     }
     let count = found.count;
-    if reader::parse_key_file(&file[0..count]).status != status::OK {
+    if parse::parse_key_file(&file[0..count]).status != status::OK {
         return refused(status::ERR_INVALID_KEY_FILE);
     }
     buffers::paste(key_buf, 0, &file[0..count]);

@@ -1,11 +1,7 @@
 // 01: "The file reader keeps the lent file and a place in it, and takes one field at a time". The borrow checker covers no function over such a
 // struct, so each is thin and proved by hand; `fields` does the work.
 use crate::fields;
-use crate::key_file;
-use crate::parse;
 ghost use mathlib.Core.Path.{_≡_};
-ghost use lib.ListN.{drop};
-ghost use Rattle.keys.specs.KeyFile.{parseKeyFile};
 ghost use Rattle.keys.specs.Reader.{takenOf, markAt, fieldAt, bytesAt, partAt};
 
 pub struct KeyFileReader<'a> {
@@ -64,18 +60,4 @@ pub fn take_material<'s, 'a>(r: &'s mut KeyFileReader<'a>, n: usize) -> KeyMater
         bytes,
         status: f.status,
     }
-}
-
-// The whole file from the reader's place on.
-pub fn key_file<'a>(r: KeyFileReader<'a>) -> key_file::KeyFile
-    ensures { λ k. ⌜ k ≡ parseKeyFile (drop (r .entry .pos) (now (r .entry .file))) ⌝ }
-{
-    parse::parse_from(r.file, r.pos)
-}
-
-// For every other caller: plain parameters, no walk above it.
-pub fn parse_key_file(file: &[u8]) -> key_file::KeyFile
-    ensures { λ k. ⌜ k ≡ parseKeyFile (now (file .entry)) ⌝ }
-{
-    key_file(new(file))
 }

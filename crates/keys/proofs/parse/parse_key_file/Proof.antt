@@ -1,9 +1,9 @@
--- `keys::parse::parse_whole`: each test says what the file is not, and all of them what it is.
+-- `keys::parse::parse_key_file`: each test says what the file is not, and all of them what it is.
 use mathlib.Core.Path.{sym, _∙_}
 use borrow.Author.Needs.{needs}
 use Rattle.keys.proofs.Header.{no-header, other-version, more-material, missing-bytes, trailing-bytes, accepted}
-use Rattle.keys.proofs.parse.parse_whole.Statement.{statement}
-use Rattle.keys.proofs.parse.parse_whole.Tie as tie
+use Rattle.keys.proofs.parse.parse_key_file.Statement.{statement}
+use Rattle.keys.proofs.parse.parse_key_file.Tie as tie
 
 read-header-requires : tie.Need-read-header-requires
 read-header-requires c κs = search needs
@@ -62,8 +62,8 @@ returns-6 c =
     let h = c .before .before .before .before .before .before .before .before .before .before .before .before .read-header in
     accepted (c .before .before .before .before .before .before .before .before .before .before .before .before .before .before .args .file .now) (h .result) (h .ensures) (m .result) (m .ensures) (c .before .before .before .before .before .before .before .before .before .before .if1 .left) (c .before .before .before .before .before .before .before .before .if2 .left) (c .before .before .before .before .before .before .if3 .left) (c .before .before .before .if4 .left) (c .before .if5 .left)
 
-pub parse-whole-spec : {M : Type 1} → statement M
-parse-whole-spec =
+pub parse-key-file-spec : {M : Type 1} → statement M
+parse-key-file-spec =
     tie.close
     (tie.spec
     read-header-requires
