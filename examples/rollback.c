@@ -34,6 +34,15 @@ static uint32_t set(const char *name, const char *text)
                            (const uint8_t *)text, strlen(text));
 }
 
+/* The flags stand on the card: what is read is to be believed only if they ask for the protection that this box sets. */
+static int is_protected(const uint8_t *some_card, const char *name)
+{
+    uint32_t data_size, flags;
+    return securestore_get_info(some_card, sizeof card, chip, sizeof chip, DEVICE_KEY, sizeof DEVICE_KEY, (const uint8_t *)name, strlen(name), &data_size,
+                                &flags) == SECURESTORE_OK &&
+           flags == FLAGS;
+}
+
 /* Reads a record as text from some card under the box's chip, says how that went, and gives the status. */
 static uint32_t read_from(const uint8_t *some_card, const char *name, char *text, size_t size)
 {
@@ -43,6 +52,7 @@ static uint32_t read_from(const uint8_t *some_card, const char *name, char *text
     check(status == SECURESTORE_OK || count == 0, "a refusal gives count 0");
     text[count] = '\0';
     if (status == SECURESTORE_OK) {
+        check(is_protected(some_card, name), "the record asks for all protection");
         printf("  %s: \"%s\"\n", name, text);
     } else {
         printf("  %s: refused with %u\n", name, (unsigned)status);
@@ -54,12 +64,13 @@ static void list_names(void)
 {
     uint8_t name[SECURESTORE_NAME_MAX];
     size_t name_len, slot = 0, found = 0;
-    while (securestore_iterator_next(card, sizeof card, chip, sizeof chip, (const uint8_t *)"player/", 7, slot, name, sizeof name, &name_len, &slot) ==
-           SECURESTORE_OK) {
+    uint32_t status;
+    while ((status = securestore_iterator_next(card, sizeof card, chip, sizeof chip, (const uint8_t *)"player/", 7, slot, name, sizeof name, &name_len,
+                                               &slot)) == SECURESTORE_OK) {
         printf("  slot %u: %.*s\n", (unsigned)slot - 1, (int)name_len, (const char *)name);
         found++;
     }
-    check(found == 2, "the card has two players");
+    check(status == SECURESTORE_ERR_NOT_FOUND && found == 2, "the card has two players");
 }
 
 /* Two records, a copy of the card, and a newer record of player/1. */

@@ -180,6 +180,20 @@ static void test_format_key_file(void)
            "format_key_file: material of 445");
 }
 
+static void test_parse_key_file(void)
+{
+    uint32_t a[6];
+    size_t i;
+    expect(securestore_parse_key_file(KEY_FILE, sizeof KEY_FILE, a, a + 1, a + 2, a + 3, a + 4, a + 5) == SECURESTORE_OK, "parse_key_file: status");
+    expect(a[0] == 1 && a[1] == 0x2400 && a[2] == 3 && a[3] == 0x06100004 && a[4] == 5, "parse_key_file: attributes");
+    expect(a[5] == sizeof KEY_FILE - SECURESTORE_KEY_FILE_HEADER, "parse_key_file: material");
+    expect(securestore_parse_key_file(KEY_FILE, sizeof KEY_FILE - 1, a, a + 1, a + 2, a + 3, a + 4, a + 5) == SECURESTORE_ERR_INVALID_KEY_FILE,
+           "parse_key_file: a byte less");
+    for (i = 0; i < 6; i++) {
+        expect(a[i] == 0, "parse_key_file: a refusal gives zeros");
+    }
+}
+
 static uint32_t save_key(uint32_t key_id)
 {
     return securestore_save_key(kv, sizeof kv, rbp, sizeof rbp, KEY, sizeof KEY, key_id, 1, 0x2400, 3, 0x06100004, 5, KEY_FILE + 36, 4, 14, IV, sizeof IV);
@@ -224,6 +238,7 @@ int main(void)
     test_iterator_next();
     test_remove_and_reset();
     test_format_key_file();
+    test_parse_key_file();
     test_keys();
     printf("%u passed, %u failed\n", passed, failed);
     return failed != 0;
