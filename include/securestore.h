@@ -21,7 +21,7 @@
  *
  * Power. Writing card and chip back is two writes, and the library cannot join them. After only one of the two a record with replay protection answers
  * 12 to a get until it is set again, which works; where only the card was written a remove works, too. A write-once record with replay protection
- * then answers 7 to a set and stays refused until a reset: keep a journal of both buffers if that matters.
+ * then answers 7 to a set with its flags and stays refused until a reset: keep a journal of both buffers if that matters.
  *
  * Time. Tags are compared in full, but AES works by table look-ups: its time may depend on key and data where the machine has a data cache. */
 #ifndef SECURESTORE_H
