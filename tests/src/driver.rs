@@ -8,7 +8,7 @@ use reference::library::Library;
 use reference::rng::Rng;
 use reference::stories;
 use reference::tally::{Tally, NUMBERS};
-use reference::{edges, generator, lists, orders};
+use reference::{edges, generator, lists, orders, parsing};
 
 use crate::openssl;
 
@@ -60,6 +60,8 @@ pub fn run(library: &dyn Library, options: &Options) -> Score {
     } else {
         println!("skipped openssl: the command is not installed");
     }
+    let rng = Rng::part(options.seed, 6 << 40);
+    score.check("random-key-files", parsing::random_key_files(library, rng));
     for (name, checked) in edges::checks(library) {
         score.check(&name, checked);
     }

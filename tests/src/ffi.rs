@@ -1,11 +1,13 @@
 //! The product's static library, called with guarded copies of every buffer.
 
+use std::ops::Range;
 use std::os::raw::c_uchar;
 
 use reference::aes::Block;
 use reference::answer::Answer;
 use reference::calls::Call;
 use reference::ctr::Iv;
+use reference::keyfile::Attributes;
 use reference::library::{Library, Observed, Seen};
 
 type Bytes = *const c_uchar;
@@ -129,6 +131,16 @@ extern "C" {
         key_buf_len: usize,
         count: *mut usize,
     ) -> u32;
+    fn securestore_parse_key_file(
+        file: Bytes,
+        file_len: usize,
+        lifetime: *mut u32,
+        kind: *mut u32,
+        usage: *mut u32,
+        alg: *mut u32,
+        enrollment_alg: *mut u32,
+        material_len: *mut u32,
+    ) -> u32;
 }
 
 const GUARD: usize = 64;
@@ -136,53 +148,63 @@ const GUARD: usize = 64;
 /// A copy of a lent buffer between two guards, so that a write outside is seen.
 struct Lent {
     what: &'static str,
+    /// Where the content starts.
+    front: usize,
     bytes: Vec<u8>,
     before: Vec<u8>,
 }
 
 impl Lent {
     fn new(what: &'static str, content: &[u8]) -> Lent {
-        let mut bytes = vec![0xa5; GUARD];
+        // Firmware's buffers start at any address. The content decides, so that
+        // a repeated call is lent the same.
+        let sum: usize = content.iter().map(|byte| usize::from(*byte)).sum();
+        let front = GUARD + (sum + content.len()) % 16;
+        let mut bytes = vec![0xa5; front];
         bytes.extend(content);
         bytes.extend([0x5a; GUARD]);
         Lent {
             what,
+            front,
             before: bytes.clone(),
             bytes,
         }
     }
 
+    fn place(&self) -> Range<usize> {
+        self.front..self.bytes.len() - GUARD
+    }
+
     fn len(&self) -> usize {
-        self.bytes.len() - 2 * GUARD
+        self.place().len()
     }
 
     fn ptr(&self) -> Bytes {
-        self.bytes[GUARD..].as_ptr()
+        self.bytes[self.front..].as_ptr()
     }
 
     fn ptr_mut(&mut self) -> BytesMut {
-        self.bytes[GUARD..].as_mut_ptr()
+        self.bytes[self.front..].as_mut_ptr()
     }
 
     fn content(&self) -> &[u8] {
-        &self.bytes[GUARD..GUARD + self.len()]
+        &self.bytes[self.place()]
     }
 
     /// A write outside the buffer.
     fn overrun(&self) -> Option<String> {
-        let end = GUARD + self.len();
         let changed = (0..self.bytes.len())
-            .filter(|at| !(GUARD..end).contains(at))
+            .filter(|at| !self.place().contains(at))
             .find(|at| self.bytes[*at] != self.before[*at]);
         changed.map(|at| {
-            let at = at as i64 - GUARD as i64;
+            let at = at as i64 - self.front as i64;
             format!("{} was written outside, at byte {at}", self.what)
         })
     }
 
     /// A write to a buffer that the call may only read.
     fn written(&self) -> Option<String> {
-        let changed = self.content() != &self.before[GUARD..GUARD + self.len()];
+        let changed = self.content() != &self.before[self.place()];
         let note = format!("{} was written, though only lent to read", self.what);
         changed.then_some(note).or_else(|| self.overrun())
     }
@@ -278,6 +300,40 @@ impl Library for Product {
         };
         cipher_result(&[&key, &prefix, &name], &out).map(to_block)
     }
+
+    fn parse_key_file(&self, file: &[u8]) -> Seen<(u32, [u32; 6])> {
+        let lent = Lent::new("file", file);
+        let mut numbers: [Number<u32>; 6] = std::array::from_fn(|_| Number::<u32>::new());
+        let [lifetime, kind, usage, alg, enrollment, material_len] = &mut numbers;
+        // SAFETY: the file has its length, and each number a place of its own.
+        let number = unsafe {
+            securestore_parse_key_file(
+                lent.ptr(),
+                lent.len(),
+                lifetime.ptr(),
+                kind.ptr(),
+                usage.ptr(),
+                alg.ptr(),
+                enrollment.ptr(),
+                material_len.ptr(),
+            )
+        };
+        let unwritten = UNWRITTEN as u32;
+        let mut strays: Vec<String> = lent.written().into_iter().collect();
+        for number in &numbers {
+            number.value(unwritten, &mut strays);
+        }
+        let values = numbers.map(|number| number.0[1]);
+        // A file can carry this very number, but hardly by chance.
+        let carried = file.windows(4).any(|four| four == unwritten.to_le_bytes());
+        if values.contains(&unwritten) && !carried {
+            strays.push("a number was left unwritten".into());
+        }
+        match strays.pop() {
+            Some(stray) => Err(stray),
+            None => Ok((number, values)),
+        }
+    }
 }
 
 fn cipher_result(read_only: &[&Lent], result: &Lent) -> Seen<Vec<u8>> {
@@ -328,13 +384,12 @@ impl Lending {
         place
     }
 
+    /// Card, chip and output, with their lengths.
+    fn areas(&mut self) -> [(BytesMut, usize); 3] {
+        [&mut self.card, &mut self.chip, &mut self.output].map(|lent| (lent.ptr_mut(), lent.len()))
+    }
+
     fn run(&mut self, call: &Call) -> u32 {
-        let (kv, kv_len) = (self.card.ptr_mut(), self.card.len());
-        let (rbp, rbp_len) = (self.chip.ptr_mut(), self.chip.len());
-        let (out, out_len) = (self.output.ptr_mut(), self.output.len());
-        // SAFETY, of every call below: each pointer is to a live buffer of the
-        // length beside it, no two overlap, and numbers are returned to places
-        // of their own type.
         match call {
             Call::Set {
                 key,
@@ -342,117 +397,19 @@ impl Lending {
                 flags,
                 iv,
                 data,
-            } => {
-                let (key, key_len) = self.read("device key", key);
-                let (name, name_len) = self.read("name", name);
-                let (iv, iv_len) = self.read("IV", iv);
-                let (data, data_len) = self.read("data", data);
-                unsafe {
-                    securestore_set(
-                        kv, kv_len, rbp, rbp_len, key, key_len, name, name_len, *flags, iv, iv_len,
-                        data, data_len,
-                    )
-                }
-            }
+            } => self.set(key, name, *flags, iv, data),
             Call::Get {
                 key, name, offset, ..
-            } => {
-                let (key, key_len) = self.read("device key", key);
-                let (name, name_len) = self.read("name", name);
-                let mut count = Number::<usize>::new();
-                let number = unsafe {
-                    securestore_get(
-                        kv,
-                        kv_len,
-                        rbp,
-                        rbp_len,
-                        key,
-                        key_len,
-                        name,
-                        name_len,
-                        *offset,
-                        out,
-                        out_len,
-                        count.ptr(),
-                    )
-                };
-                self.returned[0] = count.value(UNWRITTEN, &mut self.strays);
-                number
-            }
-            Call::Info { key, name } => {
-                let (key, key_len) = self.read("device key", key);
-                let (name, name_len) = self.read("name", name);
-                let (mut data_size, mut flags) = (Number::<u32>::new(), Number::<u32>::new());
-                let number = unsafe {
-                    securestore_get_info(
-                        kv,
-                        kv_len,
-                        rbp,
-                        rbp_len,
-                        key,
-                        key_len,
-                        name,
-                        name_len,
-                        data_size.ptr(),
-                        flags.ptr(),
-                    )
-                };
-                let unwritten = UNWRITTEN as u32;
-                self.returned[0] = data_size.value(unwritten, &mut self.strays);
-                self.returned[1] = flags.value(unwritten, &mut self.strays);
-                number
-            }
-            Call::Remove { name } => {
-                let (name, name_len) = self.read("name", name);
-                unsafe { securestore_remove(kv, kv_len, rbp, rbp_len, name, name_len) }
-            }
-            Call::Reset => unsafe { securestore_reset(kv, kv_len, rbp, rbp_len) },
-            Call::Walk { prefix, start, .. } => {
-                let (prefix, prefix_len) = self.read("prefix", prefix);
-                let (mut name_len, mut next) = (Number::<usize>::new(), Number::<usize>::new());
-                let number = unsafe {
-                    securestore_iterator_next(
-                        kv,
-                        kv_len,
-                        rbp,
-                        rbp_len,
-                        prefix,
-                        prefix_len,
-                        *start,
-                        out,
-                        out_len,
-                        name_len.ptr(),
-                        next.ptr(),
-                    )
-                };
-                self.returned[0] = name_len.value(UNWRITTEN, &mut self.strays);
-                self.returned[1] = next.value(UNWRITTEN, &mut self.strays);
-                number
-            }
+            } => self.get(key, name, *offset),
+            Call::Info { key, name } => self.info(key, name),
+            Call::Remove { name } => self.remove(name),
+            Call::Reset => self.reset(),
+            Call::Walk { prefix, start, .. } => self.walk(prefix, *start),
             Call::WriteKeyFile {
                 attributes,
                 material,
                 ..
-            } => {
-                let (material, material_len) = self.read("material", material);
-                let mut count = Number::<usize>::new();
-                let number = unsafe {
-                    securestore_format_key_file(
-                        attributes.lifetime,
-                        attributes.kind,
-                        attributes.usage,
-                        attributes.algorithm,
-                        attributes.enrollment,
-                        material,
-                        material_len,
-                        out,
-                        out_len,
-                        count.ptr(),
-                    )
-                };
-                self.returned[0] = count.value(UNWRITTEN, &mut self.strays);
-                number
-            }
+            } => self.write_key_file(attributes, material),
             Call::KeepKey {
                 key,
                 identifier,
@@ -460,54 +417,194 @@ impl Lending {
                 material,
                 flags,
                 iv,
-            } => {
-                let (key, key_len) = self.read("device key", key);
-                let (material, material_len) = self.read("material", material);
-                let (iv, iv_len) = self.read("IV", iv);
-                unsafe {
-                    securestore_save_key(
-                        kv,
-                        kv_len,
-                        rbp,
-                        rbp_len,
-                        key,
-                        key_len,
-                        *identifier,
-                        attributes.lifetime,
-                        attributes.kind,
-                        attributes.usage,
-                        attributes.algorithm,
-                        attributes.enrollment,
-                        material,
-                        material_len,
-                        *flags,
-                        iv,
-                        iv_len,
-                    )
-                }
-            }
+            } => self.keep_key(key, *identifier, attributes, material, *flags, iv),
             Call::LoadKey {
                 key, identifier, ..
-            } => {
-                let (key, key_len) = self.read("device key", key);
-                let mut count = Number::<usize>::new();
-                let number = unsafe {
-                    securestore_load_key(
-                        kv,
-                        kv_len,
-                        rbp,
-                        rbp_len,
-                        key,
-                        key_len,
-                        *identifier,
-                        out,
-                        out_len,
-                        count.ptr(),
-                    )
-                };
-                self.returned[0] = count.value(UNWRITTEN, &mut self.strays);
-                number
-            }
+            } => self.load_key(key, *identifier),
         }
+    }
+}
+
+/// The calls, one each.
+// SAFETY, of every one: each pointer is to a live buffer of the length beside it,
+// no two overlap, and numbers are returned to places of their own type.
+impl Lending {
+    fn set(&mut self, key: &[u8], name: &[u8], flags: u32, iv: &[u8], data: &[u8]) -> u32 {
+        let [(kv, kv_len), (rbp, rbp_len), _] = self.areas();
+        let (key, key_len) = self.read("device key", key);
+        let (name, name_len) = self.read("name", name);
+        let (iv, iv_len) = self.read("IV", iv);
+        let (data, data_len) = self.read("data", data);
+        unsafe {
+            securestore_set(
+                kv, kv_len, rbp, rbp_len, key, key_len, name, name_len, flags, iv, iv_len, data,
+                data_len,
+            )
+        }
+    }
+
+    fn get(&mut self, key: &[u8], name: &[u8], offset: usize) -> u32 {
+        let [(kv, kv_len), (rbp, rbp_len), (out, out_len)] = self.areas();
+        let (key, key_len) = self.read("device key", key);
+        let (name, name_len) = self.read("name", name);
+        let mut count = Number::<usize>::new();
+        let number = unsafe {
+            securestore_get(
+                kv,
+                kv_len,
+                rbp,
+                rbp_len,
+                key,
+                key_len,
+                name,
+                name_len,
+                offset,
+                out,
+                out_len,
+                count.ptr(),
+            )
+        };
+        self.returned[0] = count.value(UNWRITTEN, &mut self.strays);
+        number
+    }
+
+    fn info(&mut self, key: &[u8], name: &[u8]) -> u32 {
+        let [(kv, kv_len), (rbp, rbp_len), _] = self.areas();
+        let (key, key_len) = self.read("device key", key);
+        let (name, name_len) = self.read("name", name);
+        let (mut data_size, mut flags) = (Number::<u32>::new(), Number::<u32>::new());
+        let number = unsafe {
+            securestore_get_info(
+                kv,
+                kv_len,
+                rbp,
+                rbp_len,
+                key,
+                key_len,
+                name,
+                name_len,
+                data_size.ptr(),
+                flags.ptr(),
+            )
+        };
+        let unwritten = UNWRITTEN as u32;
+        self.returned[0] = data_size.value(unwritten, &mut self.strays);
+        self.returned[1] = flags.value(unwritten, &mut self.strays);
+        number
+    }
+
+    fn remove(&mut self, name: &[u8]) -> u32 {
+        let [(kv, kv_len), (rbp, rbp_len), _] = self.areas();
+        let (name, name_len) = self.read("name", name);
+        unsafe { securestore_remove(kv, kv_len, rbp, rbp_len, name, name_len) }
+    }
+
+    fn reset(&mut self) -> u32 {
+        let [(kv, kv_len), (rbp, rbp_len), _] = self.areas();
+        unsafe { securestore_reset(kv, kv_len, rbp, rbp_len) }
+    }
+
+    fn walk(&mut self, prefix: &[u8], start: usize) -> u32 {
+        let [(kv, kv_len), (rbp, rbp_len), (out, out_len)] = self.areas();
+        let (prefix, prefix_len) = self.read("prefix", prefix);
+        let (mut name_len, mut next) = (Number::<usize>::new(), Number::<usize>::new());
+        let number = unsafe {
+            securestore_iterator_next(
+                kv,
+                kv_len,
+                rbp,
+                rbp_len,
+                prefix,
+                prefix_len,
+                start,
+                out,
+                out_len,
+                name_len.ptr(),
+                next.ptr(),
+            )
+        };
+        self.returned[0] = name_len.value(UNWRITTEN, &mut self.strays);
+        self.returned[1] = next.value(UNWRITTEN, &mut self.strays);
+        number
+    }
+
+    fn write_key_file(&mut self, attributes: &Attributes, material: &[u8]) -> u32 {
+        let [_, _, (out, out_len)] = self.areas();
+        let (material, material_len) = self.read("material", material);
+        let mut count = Number::<usize>::new();
+        let number = unsafe {
+            securestore_format_key_file(
+                attributes.lifetime,
+                attributes.kind,
+                attributes.usage,
+                attributes.algorithm,
+                attributes.enrollment,
+                material,
+                material_len,
+                out,
+                out_len,
+                count.ptr(),
+            )
+        };
+        self.returned[0] = count.value(UNWRITTEN, &mut self.strays);
+        number
+    }
+
+    fn keep_key(
+        &mut self,
+        key: &[u8],
+        identifier: u32,
+        attributes: &Attributes,
+        material: &[u8],
+        flags: u32,
+        iv: &[u8],
+    ) -> u32 {
+        let [(kv, kv_len), (rbp, rbp_len), _] = self.areas();
+        let (key, key_len) = self.read("device key", key);
+        let (material, material_len) = self.read("material", material);
+        let (iv, iv_len) = self.read("IV", iv);
+        unsafe {
+            securestore_save_key(
+                kv,
+                kv_len,
+                rbp,
+                rbp_len,
+                key,
+                key_len,
+                identifier,
+                attributes.lifetime,
+                attributes.kind,
+                attributes.usage,
+                attributes.algorithm,
+                attributes.enrollment,
+                material,
+                material_len,
+                flags,
+                iv,
+                iv_len,
+            )
+        }
+    }
+
+    fn load_key(&mut self, key: &[u8], identifier: u32) -> u32 {
+        let [(kv, kv_len), (rbp, rbp_len), (out, out_len)] = self.areas();
+        let (key, key_len) = self.read("device key", key);
+        let mut count = Number::<usize>::new();
+        let number = unsafe {
+            securestore_load_key(
+                kv,
+                kv_len,
+                rbp,
+                rbp_len,
+                key,
+                key_len,
+                identifier,
+                out,
+                out_len,
+                count.ptr(),
+            )
+        };
+        self.returned[0] = count.value(UNWRITTEN, &mut self.strays);
+        number
     }
 }

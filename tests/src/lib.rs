@@ -17,6 +17,7 @@ pub mod keyfile;
 pub mod library;
 pub mod lists;
 pub mod orders;
+pub mod parsing;
 pub mod record;
 pub mod rng;
 pub mod show;

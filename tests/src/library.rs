@@ -22,6 +22,8 @@ pub trait Library: Sync {
     fn cmac(&self, key: &Block, message: &[u8]) -> Seen<Block>;
     fn ctr(&self, key: &Block, iv: &Iv, data: &[u8]) -> Seen<Vec<u8>>;
     fn derive(&self, key: &Block, prefix: &[u8], name: &[u8]) -> Seen<Block>;
+    /// The answer's number; the attributes in the file's order, and the material's length.
+    fn parse_key_file(&self, file: &[u8]) -> Seen<(u32, [u32; 6])>;
 }
 
 /// The reference in the library's place.
@@ -51,5 +53,9 @@ impl Library for Reference {
 
     fn derive(&self, key: &Block, prefix: &[u8], name: &[u8]) -> Seen<Block> {
         Ok(crate::kdf::derive(key, prefix, name))
+    }
+
+    fn parse_key_file(&self, file: &[u8]) -> Seen<(u32, [u32; 6])> {
+        Ok(crate::parsing::expected(file))
     }
 }

@@ -202,6 +202,10 @@ mod tests {
         fn derive(&self, key: &Block, prefix: &[u8], name: &[u8]) -> Seen<Block> {
             Reference.derive(key, prefix, name)
         }
+
+        fn parse_key_file(&self, file: &[u8]) -> Seen<(u32, [u32; 6])> {
+            Reference.parse_key_file(file)
+        }
     }
 
     #[test]
