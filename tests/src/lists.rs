@@ -167,7 +167,11 @@ fn with_room<S: Slot + Clone>(rng: &mut Rng, area: Area<S>, set: &BTreeSet<&[u8]
 /// What differs first, if anything does.
 pub fn check(merge: &Merge, library: &dyn Library, tally: &mut Tally) -> Option<String> {
     let (mut card, mut chip) = (merge.card.clone(), merge.chip.clone());
-    let start = Book::of(&Card::decode(&card)?, &Chip::decode(&chip)?);
+    // A damaged start would compare nothing, so it may not pass for sameness.
+    let start = Book::of(
+        &Card::decode(&card).expect("a sound start"),
+        &Chip::decode(&chip).expect("a sound start"),
+    );
     let mut books = [start.clone(), start.clone()];
     for (step, (side, call)) in merge.calls.iter().enumerate() {
         let expected = books[*side].step(call);

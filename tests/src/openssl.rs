@@ -1,6 +1,6 @@
 //! The library's ciphers against the `openssl` command, where it is installed.
 
-use std::io::Write;
+use std::io::{ErrorKind, Write};
 use std::process::{Command, Stdio};
 
 use reference::aes::Block;
@@ -27,12 +27,20 @@ fn openssl(arguments: &[&str], input: &[u8]) -> Result<Vec<u8>, String> {
     if done.status.success() {
         Ok(done.stdout)
     } else {
-        Err(String::from_utf8_lossy(&done.stderr).into_owned())
+        let complaint = String::from_utf8_lossy(&done.stderr).into_owned();
+        Err(format!("openssl: {}: {complaint}", done.status))
     }
 }
 
+/// Only a missing command is none: one that is there and fails, fails its checks.
 pub fn installed() -> bool {
-    openssl(&["version"], b"").is_ok()
+    let tried = Command::new("openssl")
+        .arg("version")
+        .stdin(Stdio::null())
+        .stdout(Stdio::null())
+        .stderr(Stdio::null())
+        .status();
+    !matches!(tried, Err(why) if why.kind() == ErrorKind::NotFound)
 }
 
 fn same(what: &str, expected: &[u8], got: &[u8]) -> Result<(), String> {

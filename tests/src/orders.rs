@@ -119,6 +119,12 @@ const NO_PLACE: Fault = (10, |scene| {
     scene.card = card.encode();
 });
 const NO_ENTRY: Fault = (10, |scene| put_entry(scene, b"third".to_vec()));
+/// A known name can need an entry too: the chip has lost it and is full.
+const ENTRY_LOST: Fault = (10, |scene| {
+    scene.chip[..ENTRY].fill(0);
+    put_entry(scene, b"third".to_vec());
+    put_entry(scene, b"fourth".to_vec());
+});
 const CMAC_WRONG: Fault = (11, |scene| scene.card[68 + 20] ^= 1);
 const ENTRY_DIFFERS: Fault = (12, |scene| scene.chip[ENTRY - 1] ^= 1);
 const ENTRY_ABSENT: Fault = (12, |scene| scene.chip[..ENTRY].fill(0));
@@ -202,130 +208,159 @@ fn order(library: &dyn Library, call: &Call, faults: &[Fault]) -> Result<usize, 
     Ok(1 << faults.len())
 }
 
-fn orders() -> Vec<(&'static str, Call, Vec<Fault>)> {
-    let set = |name: &[u8]| Call::Set {
+fn set(name: &[u8]) -> Call {
+    Call::Set {
         key: KEY.to_vec(),
         name: name.to_vec(),
         flags: FLAGS,
         iv: IV.to_vec(),
         data: b"data".to_vec(),
-    };
-    let keep = |identifier| Call::KeepKey {
+    }
+}
+
+fn get() -> Call {
+    Call::Get {
+        key: KEY.to_vec(),
+        name: NAME.to_vec(),
+        offset: 0,
+        output: vec![0xee; 8],
+    }
+}
+
+fn info() -> Call {
+    Call::Info {
+        key: KEY.to_vec(),
+        name: NAME.to_vec(),
+    }
+}
+
+fn remove() -> Call {
+    Call::Remove {
+        name: NAME.to_vec(),
+    }
+}
+
+fn walk() -> Call {
+    Call::Walk {
+        prefix: b"0".to_vec(),
+        start: 0,
+        name_buffer: vec![0xee; 64],
+    }
+}
+
+fn write() -> Call {
+    Call::WriteKeyFile {
+        attributes: ATTRIBUTES,
+        material: b"key".to_vec(),
+        key_buffer: vec![0xee; 480],
+    }
+}
+
+fn keep(identifier: u32) -> Call {
+    Call::KeepKey {
         key: KEY.to_vec(),
         identifier,
         attributes: ATTRIBUTES,
         material: b"other".to_vec(),
         flags: FLAGS,
         iv: IV.to_vec(),
-    };
-    let get = Call::Get {
-        key: KEY.to_vec(),
-        name: NAME.to_vec(),
-        offset: 0,
-        output: vec![0xee; 8],
-    };
-    let info = Call::Info {
-        key: KEY.to_vec(),
-        name: NAME.to_vec(),
-    };
-    let load = Call::LoadKey {
+    }
+}
+
+fn load() -> Call {
+    Call::LoadKey {
         key: KEY.to_vec(),
         identifier: IDENTIFIER,
         key_buffer: vec![0xee; 480],
-    };
-    let remove = Call::Remove {
-        name: NAME.to_vec(),
-    };
-    let walk = Call::Walk {
-        prefix: b"0".to_vec(),
-        start: 0,
-        name_buffer: vec![0xee; 64],
-    };
-    let write = Call::WriteKeyFile {
-        attributes: ATTRIBUTES,
-        material: b"key".to_vec(),
-        key_buffer: vec![0xee; 480],
-    };
+    }
+}
 
-    let areas = [
-        CARD_LENGTH,
-        CHIP_LENGTH,
-        CARD_DAMAGED,
-        CHIP_DAMAGED,
-        BAD_NAME,
-    ];
-    let keyed = [
-        KEY_LENGTH,
-        CARD_LENGTH,
-        CHIP_LENGTH,
-        CARD_DAMAGED,
-        CHIP_DAMAGED,
-        BAD_NAME,
-    ];
-    let sets = [&[IV_LENGTH][..], &keyed, &[BAD_FLAGS]].concat();
-    let stored = [REVISION, OLD_WRITE_ONCE, NEW_WRITE_ONCE, FLAGS_DIFFER];
-    let full = [NO_PLACE, NO_ENTRY];
-    let on_chip = [WRITE_ONCE_ON_CHIP, NO_PLACE];
-    let read = [REVISION, CMAC_WRONG, ENTRY_DIFFERS];
-    let one = |first: &[Fault], then: &[Fault]| [first, then].concat();
-    let set_tests = one(&sets, &[DATA_TOO_LONG]);
-    let keep_tests = one(&[MATERIAL_TOO_LONG], &sets);
-    let load_tests = one(&[BUFFER_LENGTH], &keyed);
+/// The faults of every call on card and chip that names something.
+const AREAS: &[Fault] = &[
+    CARD_LENGTH,
+    CHIP_LENGTH,
+    CARD_DAMAGED,
+    CHIP_DAMAGED,
+    BAD_NAME,
+];
+/// What a set of a known name can meet behind its arguments' tests.
+const STORED: &[Fault] = &[
+    REVISION,
+    OLD_WRITE_ONCE,
+    NEW_WRITE_ONCE,
+    FLAGS_DIFFER,
+    ENTRY_LOST,
+];
+const FULL: &[Fault] = &[NO_PLACE, NO_ENTRY];
+const ON_CHIP: &[Fault] = &[WRITE_ONCE_ON_CHIP, NO_PLACE];
+const READ: &[Fault] = &[REVISION, CMAC_WRONG, ENTRY_DIFFERS];
+
+type Order = (&'static str, Call, Vec<Fault>);
+
+/// The faults in the order of their tests.
+fn line(parts: &[&[Fault]]) -> Vec<Fault> {
+    parts.concat()
+}
+
+fn set_orders() -> Vec<Order> {
+    let sets = line(&[&[IV_LENGTH, KEY_LENGTH], AREAS, &[BAD_FLAGS]]);
+    let set_tests = line(&[&sets, &[DATA_TOO_LONG]]);
+    let keep_tests = line(&[&[MATERIAL_TOO_LONG], &sets]);
     vec![
-        ("set-known", set(NAME), one(&set_tests, &stored)),
-        ("set-new", set(b"new"), one(&set_tests, &full)),
-        ("set-on-chip", set(b"new"), one(&set_tests, &on_chip)),
-        (
-            "get",
-            get.clone(),
-            [&keyed, &read[..], &[OFFSET_BEYOND]].concat(),
-        ),
-        (
-            "get-unkept",
-            get.clone(),
-            [&keyed[..], &[ENTRY_ABSENT, OFFSET_BEYOND]].concat(),
-        ),
-        (
-            "get-gone",
-            get.clone(),
-            [&keyed[..], &[GONE_FROM_CARD, OFFSET_BEYOND]].concat(),
-        ),
-        (
-            "get-absent",
-            get,
-            [&keyed[..], &[NOT_FOUND, OFFSET_BEYOND]].concat(),
-        ),
-        ("info", info.clone(), one(&keyed, &read)),
-        ("info-gone", info.clone(), one(&keyed, &[GONE_FROM_CARD])),
-        ("info-absent", info, one(&keyed, &[NOT_FOUND])),
+        ("set-known", set(NAME), line(&[&set_tests, STORED])),
+        ("set-new", set(b"new"), line(&[&set_tests, FULL])),
+        ("set-on-chip", set(b"new"), line(&[&set_tests, ON_CHIP])),
+        ("keep-known", keep(IDENTIFIER), line(&[&keep_tests, STORED])),
+        ("keep-new", keep(1), line(&[&keep_tests, FULL])),
+        ("keep-on-chip", keep(1), line(&[&keep_tests, ON_CHIP])),
+    ]
+}
+
+fn get_orders() -> Vec<Order> {
+    let keyed = line(&[&[KEY_LENGTH], AREAS]);
+    let order = |faults: &[Fault]| line(&[&keyed, faults]);
+    let reading = line(&[READ, &[OFFSET_BEYOND]]);
+    vec![
+        ("get", get(), order(&reading)),
+        ("get-unkept", get(), order(&[ENTRY_ABSENT, OFFSET_BEYOND])),
+        ("get-gone", get(), order(&[GONE_FROM_CARD, OFFSET_BEYOND])),
+        ("get-absent", get(), order(&[NOT_FOUND, OFFSET_BEYOND])),
+        ("info", info(), order(READ)),
+        ("info-gone", info(), order(&[GONE_FROM_CARD])),
+        ("info-absent", info(), order(&[NOT_FOUND])),
+    ]
+}
+
+fn load_orders() -> Vec<Order> {
+    let order = |faults| line(&[&[BUFFER_LENGTH, KEY_LENGTH], AREAS, faults]);
+    let reading = line(&[READ, &[NOT_A_KEY_FILE]]);
+    vec![
+        ("load", load(), order(&reading)),
+        ("load-gone", load(), order(&[GONE_FROM_CARD])),
+        ("load-absent", load(), order(&[NOT_FOUND])),
+    ]
+}
+
+fn keyless_orders() -> Vec<Order> {
+    vec![
         (
             "remove",
-            remove.clone(),
-            one(&areas, &[REVISION, OLD_WRITE_ONCE]),
+            remove(),
+            line(&[AREAS, &[REVISION, OLD_WRITE_ONCE]]),
         ),
-        ("remove-absent", remove, one(&areas, &[NOT_ON_CARD])),
+        ("remove-absent", remove(), line(&[AREAS, &[NOT_ON_CARD]])),
         ("reset", Call::Reset, vec![CARD_LENGTH, CHIP_LENGTH]),
         (
             "walk",
-            walk,
-            [&[BUFFER_LENGTH][..], &areas, &[START_BEYOND]].concat(),
+            walk(),
+            line(&[&[BUFFER_LENGTH], AREAS, &[START_BEYOND]]),
         ),
-        ("write", write, vec![BUFFER_LENGTH, MATERIAL_TOO_LONG]),
-        ("keep-known", keep(IDENTIFIER), one(&keep_tests, &stored)),
-        ("keep-new", keep(1), one(&keep_tests, &full)),
-        ("keep-on-chip", keep(1), one(&keep_tests, &on_chip)),
-        (
-            "load",
-            load.clone(),
-            [&load_tests, &read[..], &[NOT_A_KEY_FILE]].concat(),
-        ),
-        (
-            "load-gone",
-            load.clone(),
-            one(&load_tests, &[GONE_FROM_CARD]),
-        ),
-        ("load-absent", load, one(&load_tests, &[NOT_FOUND])),
+        ("write", write(), vec![BUFFER_LENGTH, MATERIAL_TOO_LONG]),
     ]
+}
+
+fn orders() -> Vec<Order> {
+    [set_orders(), get_orders(), load_orders(), keyless_orders()].concat()
 }
 
 pub fn checks(library: &dyn Library) -> Vec<(String, Checked)> {
