@@ -71,6 +71,12 @@ pub fn call(call: &Call) -> String {
                 buffer(name_buffer)
             )
         }
+        Call::WriteKeyFile { .. } | Call::KeepKey { .. } | Call::LoadKey { .. } => key_call(call),
+    }
+}
+
+fn key_call(call: &Call) -> String {
+    match call {
         Call::WriteKeyFile {
             attributes,
             material,
@@ -102,6 +108,7 @@ pub fn call(call: &Call) -> String {
             hex(key),
             buffer(key_buffer)
         ),
+        _ => unreachable!("no call of key files"),
     }
 }
 

@@ -30,73 +30,37 @@ impl Tamperer<'_> {
                 flip(self.rng, &mut chip);
                 "a bit of the chip flips"
             }
-            9..=20 => {
-                let at = self.used_slot(&card, PLACE);
-                let place = &mut card[at..at + PLACE];
-                let length = usize::from(u16::from_le_bytes([place[2], place[3]]));
-                flip(self.rng, &mut place[68..68 + length.max(1)]);
-                "a bit of a record flips"
-            }
-            21..=25 => {
-                let at = self.used_slot(&chip, ENTRY);
-                flip(self.rng, &mut chip[at + 66..at + ENTRY]);
-                "a bit of an entry's CMAC flips"
-            }
+            9..=20 => self.flip_in_record(&mut card),
+            21..=25 => self.flip_in_entry(&mut chip),
             26..=35 => self.misshape_place(&mut card),
             36..=43 => self.misshape_entry(&mut chip),
-            44..=53 => {
-                let at = self.used_slot(&card, PLACE);
-                if let Some(mut place) = Place::read(&card[at..at + PLACE]) {
-                    place.record = out_of_form(self.rng, place.record);
-                    card[at..at + PLACE].copy_from_slice(&place.encode());
-                }
-                "a record's field is changed"
-            }
+            44..=53 => self.change_field(&mut card),
             54..=58 => {
-                let at = self.used_slot(&card, PLACE);
-                card[at..at + PLACE].fill(0);
+                self.empty(&mut card, PLACE);
                 "a place is emptied"
             }
             59..=63 => {
-                let at = self.used_slot(&chip, ENTRY);
-                chip[at..at + ENTRY].fill(0);
+                self.empty(&mut chip, ENTRY);
                 "an entry is emptied"
             }
             64..=66 => {
-                let (a, b) = (slot(self.rng, &card, PLACE), slot(self.rng, &card, PLACE));
-                swap(&mut card, a, b, PLACE);
+                self.swap(&mut card, PLACE);
                 "two places are swapped"
             }
             67..=68 => {
-                let (a, b) = (slot(self.rng, &chip, ENTRY), slot(self.rng, &chip, ENTRY));
-                swap(&mut chip, a, b, ENTRY);
+                self.swap(&mut chip, ENTRY);
                 "two entries are swapped"
             }
             69..=71 => {
-                let from = self.used_slot(&card, PLACE);
-                card.copy_within(from..from + PLACE, slot(self.rng, card_before, PLACE));
+                self.copy(&mut card, PLACE);
                 "a place is copied over another"
             }
             72..=74 => {
-                let from = self.used_slot(&chip, ENTRY);
-                chip.copy_within(from..from + ENTRY, slot(self.rng, chip_before, ENTRY));
+                self.copy(&mut chip, ENTRY);
                 "an entry is copied over another"
             }
-            75..=78 => {
-                // The state byte is left: under a free place this is damage.
-                let (from, to) = (self.used_slot(&card, PLACE), self.used_slot(&card, PLACE));
-                card.copy_within(from + 2..from + 4, to + 2);
-                card.copy_within(from + 68..from + PLACE, to + 68);
-                "a record is moved under another name"
-            }
-            79..=81 => {
-                let name = self.rng.pick(&self.cast.names);
-                let at = self.used_slot(&card, PLACE);
-                if let Some(place) = Place::read(&card[at..at + PLACE]) {
-                    card[at..at + PLACE].copy_from_slice(&Place { name, ..place }.encode());
-                }
-                "a place is renamed"
-            }
+            75..=78 => self.move_record(&mut card),
+            79..=81 => self.rename(&mut card),
             82..=91 => self.put_back(&mut card, &mut chip),
             92..=95 => {
                 resize(self.rng, &mut card, PLACE);
@@ -108,6 +72,64 @@ impl Tamperer<'_> {
             }
         };
         (what, card, chip)
+    }
+
+    fn flip_in_record(&mut self, card: &mut [u8]) -> &'static str {
+        let at = self.used_slot(card, PLACE);
+        let place = &mut card[at..at + PLACE];
+        let length = usize::from(u16::from_le_bytes([place[2], place[3]]));
+        flip(self.rng, &mut place[68..68 + length.max(1)]);
+        "a bit of a record flips"
+    }
+
+    fn flip_in_entry(&mut self, chip: &mut [u8]) -> &'static str {
+        let at = self.used_slot(chip, ENTRY);
+        flip(self.rng, &mut chip[at + 66..at + ENTRY]);
+        "a bit of an entry's CMAC flips"
+    }
+
+    fn change_field(&mut self, card: &mut [u8]) -> &'static str {
+        let at = self.used_slot(card, PLACE);
+        if let Some(mut place) = Place::read(&card[at..at + PLACE]) {
+            place.record = out_of_form(self.rng, place.record);
+            card[at..at + PLACE].copy_from_slice(&place.encode());
+        }
+        "a record's field is changed"
+    }
+
+    fn empty(&mut self, area: &mut [u8], size: usize) {
+        let at = self.used_slot(area, size);
+        area[at..at + size].fill(0);
+    }
+
+    fn swap(&mut self, area: &mut [u8], size: usize) {
+        let (a, b) = (slot(self.rng, area, size), slot(self.rng, area, size));
+        for i in 0..size {
+            area.swap(a + i, b + i);
+        }
+    }
+
+    fn copy(&mut self, area: &mut [u8], size: usize) {
+        let from = self.used_slot(area, size);
+        let to = slot(self.rng, area, size);
+        area.copy_within(from..from + size, to);
+    }
+
+    fn move_record(&mut self, card: &mut [u8]) -> &'static str {
+        // The state byte is left: under a free place this is damage.
+        let (from, to) = (self.used_slot(card, PLACE), self.used_slot(card, PLACE));
+        card.copy_within(from + 2..from + 4, to + 2);
+        card.copy_within(from + 68..from + PLACE, to + 68);
+        "a record is moved under another name"
+    }
+
+    fn rename(&mut self, card: &mut [u8]) -> &'static str {
+        let name = self.rng.pick(&self.cast.names);
+        let at = self.used_slot(card, PLACE);
+        if let Some(place) = Place::read(&card[at..at + PLACE]) {
+            card[at..at + PLACE].copy_from_slice(&Place { name, ..place }.encode());
+        }
+        "a place is renamed"
     }
 
     /// Where a used place or entry starts; any where none is used.
@@ -236,12 +258,6 @@ fn slot(rng: &mut Rng, area: &[u8], size: usize) -> usize {
 fn flip(rng: &mut Rng, bytes: &mut [u8]) {
     let at = rng.below(bytes.len());
     bytes[at] ^= 1 << rng.below(8);
-}
-
-fn swap(area: &mut [u8], a: usize, b: usize, size: usize) {
-    for i in 0..size {
-        area.swap(a + i, b + i);
-    }
 }
 
 fn resize(rng: &mut Rng, area: &mut Vec<u8>, size: usize) {
