@@ -33,6 +33,17 @@ impl KeyFile {
     }
 
     pub fn encode(&self) -> Vec<u8> {
+        let mut file = MAGIC.to_vec();
+        file.extend(VERSION.to_le_bytes());
+        for number in self.numbers() {
+            file.extend(number.to_le_bytes());
+        }
+        file.extend(&self.material);
+        file
+    }
+
+    /// The attributes, then the material's length, in the file's order.
+    pub fn numbers(&self) -> [u32; 6] {
         let Attributes {
             lifetime,
             kind,
@@ -41,14 +52,7 @@ impl KeyFile {
             enrollment,
         } = self.attributes;
         let length = self.material.len() as u32;
-        let mut file = MAGIC.to_vec();
-        for number in [
-            VERSION, lifetime, kind, usage, algorithm, enrollment, length,
-        ] {
-            file.extend(number.to_le_bytes());
-        }
-        file.extend(&self.material);
-        file
+        [lifetime, kind, usage, algorithm, enrollment, length]
     }
 
     /// `None` for what is not a key file.

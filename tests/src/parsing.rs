@@ -93,19 +93,10 @@ fn spoil(rng: &mut Rng, fault: Fault, mut file: Vec<u8>) -> Vec<u8> {
 
 /// The number, and what is returned beside it.
 pub fn expected(file: &[u8]) -> (u32, [u32; 6]) {
-    let read = match KeyFile::decode(file) {
-        Some(read) => read,
-        None => return (13, [0; 6]),
-    };
-    let Attributes {
-        lifetime,
-        kind,
-        usage,
-        algorithm,
-        enrollment,
-    } = read.attributes;
-    let length = read.material.len() as u32;
-    (0, [lifetime, kind, usage, algorithm, enrollment, length])
+    match KeyFile::decode(file) {
+        Some(read) => (0, read.numbers()),
+        None => (13, [0; 6]),
+    }
 }
 
 fn compare(library: &dyn Library, file: &[u8]) -> Result<u32, String> {
