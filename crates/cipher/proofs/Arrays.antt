@@ -1,8 +1,7 @@
--- What is known of an array that is passed by value: how long it is, and that each element fits. Assumes nothing.
-use mathlib.Core.Path.{_≡_}
+-- What is known of an array that is passed by value: each element fits. Assumes nothing.
 use mathlib.Core.List.{List, [], _∷_}
 use Prim.Native.Nat.{ℕ, zero, suc, _^_, _<_}
-use lib.ListN.{length, getD}
+use lib.ListN.{getD}
 use lib.Pow.{pow-pos}
 use mir.Syntax.{Width}
 use mir.Val.{Val, bits}
@@ -18,9 +17,5 @@ each-fits w (x ∷ xs) [] s i = absurd s
 each-fits w (x ∷ xs) (u ∷ us) s zero = s .0 .1
 each-fits w (x ∷ xs) (u ∷ us) s (suc i) = each-fits w xs us (s .1) i
 
-module _ (w : Width) (n : ℕ) (xs : List ℕ) (vs : List Val) (p : Is (Array (UInt w) n) xs vs) where
-  pub array-fits : (i : ℕ) → getD xs i 0 < 2 ^ bits w
-  array-fits i = each-fits w xs (p .0) (p .1 .1) i
-
-  pub array-length : length xs ≡ n
-  array-length = p .1 .0 .1
+pub array-fits : (w : Width) (n : ℕ) (xs : List ℕ) (vs : List Val) → Is (Array (UInt w) n) xs vs → (i : ℕ) → getD xs i 0 < 2 ^ bits w
+array-fits w n xs vs p i = each-fits w xs (p .0) (p .1 .1) i

@@ -1,11 +1,15 @@
 -- Laws of counter mode. Assumes nothing.
-use mathlib.Core.Path.{_≡_, refl, ap}
-use mathlib.Core.List.{List, [], _∷_}
-use Prim.Native.Nat.{ℕ, suc}
-use lib.ListN.{length}
+use mathlib.Core.Path.{_≡_, refl, ap, _∙_}
+use mathlib.Core.List.{List, [], _∷_, _++_}
+use Prim.Native.Nat.{ℕ, zero, suc, _+_, _-_, _/_, _%_, _^_, _<_}
+use native.Mathlib.Nat.{zero-add, le-of-suc-le-suc, not-suc-le-zero}
+use native.Mathlib.Omega.{arith}
+use lib.Bits.{bitXor}
+use lib.ListN.{length, getD}
+use lib.Pow.{field, mod-mod-pow}
 use Rattle.cipher.specs.Aes.{aes128}
-use Rattle.cipher.specs.Ctr.{ctrFrom, ctrAt, ctr, streamByte}
-use Rattle.cipher.specs.Laws.{CtrTwice}
+use Rattle.cipher.specs.Ctr.{be64, counterBlock, streamByte, ctrFrom, ctrAt, ctr}
+use Rattle.cipher.specs.Laws.{BigEndian, CtrLaw, CtrTwice}
 use Rattle.cipher.proofs.Xor.{xor-twice}
 
 module _ (ciph : List ℕ → List ℕ) (iv : List ℕ) (count : ℕ) where
@@ -19,10 +23,63 @@ module _ (ciph : List ℕ → List ℕ) (iv : List ℕ) (count : ℕ) where
   from-length j [] = refl
   from-length j (b ∷ bs) = ap suc (from-length (suc j) bs)
 
+  from-at : (j : ℕ) (m : List ℕ) (i : ℕ) → i < length m → getD (ctrFrom ciph iv count j m) i 0 ≡ bitXor (getD m i 0) (streamByte ciph iv count (j + i))
+  unfolding ctrFrom
+  from-at j [] i h = absurd (not-suc-le-zero h)
+  from-at j (b ∷ bs) zero h = ap (λ (k : ℕ). bitXor b (streamByte ciph iv count k)) (omega arith)
+  from-at j (b ∷ bs) (suc i) h =
+      from-at (suc j) bs i (le-of-suc-le-suc h) ∙ ap (λ (k : ℕ). bitXor (getD bs i 0) (streamByte ciph iv count k)) (omega arith)
+
 pub ctr-twice : CtrTwice
+unfolding ctr ctrAt
+ctr-twice = record { from-zero = λ key iv m. from-twice (aes128 key) iv 0 0 m; from-count = λ key iv count m. from-twice (aes128 key) iv count 0 m }
+
+pub ctr-at-length : (key iv : List ℕ) (count : ℕ) (m : List ℕ) → length (ctrAt key iv count m) ≡ length m
 unfolding ctrAt
-ctr-twice key iv count m = from-twice (aes128 key) iv count 0 m
+ctr-at-length key iv count m = from-length (aes128 key) iv count 0 m
 
 pub ctr-length : (key iv m : List ℕ) → length (ctr key iv m) ≡ length m
-unfolding ctr ctrAt
-ctr-length key iv m = from-length (aes128 key) iv 0 0 m
+unfolding ctr
+ctr-length key iv m = ctr-at-length key iv 0 m
+
+ctr-at-byte : (key iv : List ℕ) (count : ℕ) (m : List ℕ) (j : ℕ) → j < length m
+    → getD (ctrAt key iv count m) j 0 ≡ bitXor (getD m j 0) (getD (aes128 key (iv ++ be64 ((count + j / 16) % 2 ^ 64))) (j % 16) 0)
+unfolding ctrAt streamByte counterBlock
+ctr-at-byte key iv count m j h =
+    from-at (aes128 key) iv count 0 m j h ∙ ap (λ (k : ℕ). bitXor (getD m j 0) (streamByte (aes128 key) iv count k)) (zero-add j)
+
+-- eight bytes tell a number up to 2^64
+byte-wraps : (n j k : ℕ) → n % 2 ^ (j + 8 + k) / 2 ^ k % 2 ^ 8 ≡ n / 2 ^ k % 2 ^ 8
+byte-wraps n j k = ap (λ (x : ℕ). x % 2 ^ 8) (field n (j + 8) k) ∙ mod-mod-pow (n / 2 ^ k) j 8
+
+be64-wraps : (n : ℕ) → be64 (n % 2 ^ 64) ≡ be64 n
+unfolding be64
+be64-wraps n = λ i.
+    byte-wraps n 0 56 i ∷ byte-wraps n 8 48 i ∷ byte-wraps n 16 40 i ∷ byte-wraps n 24 32 i ∷ byte-wraps n 32 24 i ∷ byte-wraps n 40 16 i
+    ∷ byte-wraps n 48 8 i ∷ mod-mod-pow n 56 8 i ∷ []
+
+pub ctr-law : CtrLaw
+unfolding ctr
+ctr-law = record {
+  from-zero = λ key iv m j h.
+      ctr-at-byte key iv 0 m j h
+      ∙ ap (λ (l : List ℕ). bitXor (getD m j 0) (getD (aes128 key (iv ++ l)) (j % 16) 0)) (be64-wraps (0 + j / 16) ∙ ap be64 (zero-add (j / 16)));
+  from-count = ctr-at-byte;
+}
+
+-- the places of the eight bytes
+byte-at : (n i : ℕ) → i < 8 → getD (be64 n) i 0 ≡ n / 256 ^ (7 - i) % 256
+unfolding be64
+byte-at n zero h = refl
+byte-at n (suc zero) h = refl
+byte-at n (suc (suc zero)) h = refl
+byte-at n (suc (suc (suc zero))) h = refl
+byte-at n (suc (suc (suc (suc zero)))) h = refl
+byte-at n (suc (suc (suc (suc (suc zero))))) h = refl
+byte-at n (suc (suc (suc (suc (suc (suc zero)))))) h = refl
+byte-at n (suc (suc (suc (suc (suc (suc (suc zero))))))) h = omega arith
+byte-at n (suc (suc (suc (suc (suc (suc (suc (suc i)))))))) h = absurd (omega arith)
+
+pub big-endian : BigEndian
+unfolding be64
+big-endian = record { bytes = λ n. refl; byte-at = byte-at }

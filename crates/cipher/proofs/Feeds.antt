@@ -1,6 +1,6 @@
 -- Feeding in parts is feeding the whole. Assumes nothing.
 use mathlib.Core.Path.{_≡_, refl, sym, ap, _∙_}
-use mathlib.Core.List.{List, [], _∷_, foldl, foldl-append}
+use mathlib.Core.List.{List, [], _∷_, foldl, foldl-append, flatten}
 use Prim.Native.Nat.{ℕ, _≤_, _<_, min}
 use native.Mathlib.Nat.{min-eq-left, min-le-right}
 use native.Mathlib.Omega.{arith}
@@ -10,9 +10,9 @@ use Rattle.cipher.specs.declared.cmac.CmacState.{CmacState}
 use Rattle.cipher.specs.Aes.{encryptWith}
 use Rattle.cipher.specs.Cmac.{subkey1, subkey2}
 use Rattle.cipher.specs.CmacState.{keyed, begun, clamped, fedByte, fed, closedBlock, finished}
-use Rattle.cipher.specs.Laws.{FeedAppend, KeysKept, FullBlock, concatAll}
+use Rattle.cipher.specs.Laws.{StateLaw, FeedAppend, KeysKept, FullBlock}
 use Rattle.cipher.proofs.Cases.{by-test}
-use Rattle.cipher.proofs.Fold.{state}
+use Rattle.cipher.proofs.Fold.{state, fed-short, fed-full}
 
 -- one byte leaves at most a full block pending, and the key as it was
 byte-pending : (s : CmacState) (b : ℕ) → fedByte s b .pending ≤ 16
@@ -48,10 +48,32 @@ pub feed-append : FeedAppend
 unfolding fed
 feed-append s a b = ap (λ (t : CmacState). foldl fedByte t b) (clamped-same (fed s a) (fed-pending s a)) ∙ sym (foldl-append fedByte (clamped s) a b)
 
-pub feed-parts : (s : CmacState) (parts : List (List ℕ)) → s .pending ≤ 16 → foldl fed s parts ≡ fed s (concatAll parts)
-unfolding fed
+pub feed-parts : (s : CmacState) (parts : List (List ℕ)) → s .pending ≤ 16 → foldl fed s parts ≡ fed s (flatten parts)
+unfolding fed flatten
 feed-parts s [] h = sym (clamped-same s h)
-feed-parts s (p ∷ parts) h = feed-parts (fed s p) parts (fed-pending s p) ∙ feed-append s p (concatAll parts)
+feed-parts s (p ∷ parts) h = feed-parts (fed s p) parts (fed-pending s p) ∙ feed-append s p (flatten parts)
+
+-- what the words for a state do, for one byte and for none
+fed-one : (s : CmacState) (b : ℕ) → s .pending ≤ 16 → fed s (b ∷ []) ≡ fedByte s b
+unfolding fed
+fed-one s b h = ap (λ (t : CmacState). fedByte t b) (clamped-same s h)
+
+fed-next : (s : CmacState) (b : ℕ) → s .pending ≡ 16 → fed s (b ∷ []) ≡ fed (state (encryptWith (s .keys) (s .block)) 0 (s .keys)) (b ∷ [])
+fed-next s b h =
+    let next = state (encryptWith (s .keys) (s .block)) 0 (s .keys) in
+    fed-one s b (omega arith) ∙ fed-full (s .block) (s .keys) (s .pending) b (omega arith)
+    ∙ sym (fed-one next b (omega arith) ∙ fed-short (encryptWith (s .keys) (s .block)) (s .keys) 0 b (omega arith))
+
+pub state-law : StateLaw
+unfolding keyed begun fed finished
+state-law = record {
+  keyed-is = λ key. refl;
+  begun-is = λ s. refl;
+  fed-none = clamped-same;
+  fed-short = λ s b h. fed-one s b (omega arith) ∙ fed-short (s .block) (s .keys) (s .pending) b h;
+  fed-full = fed-next;
+  finished-none = λ s. refl;
+}
 
 pub keys-kept : KeysKept
 unfolding keyed begun finished

@@ -8,6 +8,7 @@ use Rattle.cipher.specs.Field.{mul, times, xtime}
 use Rattle.cipher.specs.Sbox.{inverse, tableFrom}
 use Rattle.cipher.specs.Laws.{InverseLaw}
 use Rattle.cipher.proofs.Words.{table-at}
+use Rattle.cipher.proofs.Product.{mul-lt}
 
 abbrev product : ℕ → ℕ
 product b = mul b (inverse b)
@@ -26,5 +27,9 @@ zero-zero : inverse 0 ≡ 0
 unfolding inverse mul times xtime
 zero-zero = refl
 
+inverse-lt : (b : ℕ) → b < 256 → inverse b < 256
+unfolding inverse
+inverse-lt b h = mul-lt _ _ (mul-lt _ _ (mul-lt _ _ (mul-lt _ _ (mul-lt _ _ (mul-lt _ _ (mul-lt _ _ (mul-lt _ _ (mul-lt _ _ (mul-lt _ _ (mul-lt b b h))))))))))
+
 pub inverse-law : InverseLaw
-inverse-law = record { of-zero = zero-zero; product = product-one }
+inverse-law = record { of-zero = zero-zero; product = product-one; fits = inverse-lt }

@@ -13,5 +13,8 @@ pub mod Feeds
 pub mod Tag
 pub mod Salt
 pub mod Stream
+pub mod Product
 pub mod Inverse
+pub mod Rule
+pub mod Derivation
 pub mod Theorems

@@ -14,7 +14,7 @@ use Rattle.cipher.specs.Aes.{numberWord, xorWord, rotWord, mixColumn, mi
 use Rattle.cipher.proofs.Xor.{xor-assoc}
 use Rattle.cipher.proofs.Words.{number-word, number-xor, word-ext}
 
-bit-lt : (b i : ℕ) → affineBit b i < 2
+pub bit-lt : (b i : ℕ) → affineBit b i < 2
 unfolding affineBit
 bit-lt b i = mod-lt _ (zero-lt-suc 1)
 

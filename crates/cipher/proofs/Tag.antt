@@ -1,6 +1,6 @@
 -- The finished state's block is SP 800-38B's tag of the message. Assumes nothing.
 use mathlib.Core.Path.{_≡_, refl, sym, ap, ap₂, fun-ext, _∙_}
-use mathlib.Core.List.{List, [], _∷_, _++_, append-assoc, append-nil, zipWith, foldl, foldl-append}
+use mathlib.Core.List.{List, [], _∷_, _++_, append-assoc, append-nil, zipWith, foldl, foldl-append, flatten}
 use Prim.Native.Nat.{ℕ, zero, suc, _+_, _-_, _*_, _/_, _≤_, _<_, min}
 use native.Mathlib.Nat.{add-zero, zero-add, min-eq-left}
 use native.Mathlib.Numerals.{add-one}
@@ -14,7 +14,7 @@ use Rattle.cipher.specs.declared.cmac.CmacState.{CmacState}
 use Rattle.cipher.specs.Aes.{encryptWith, expandKey}
 use Rattle.cipher.specs.Cmac.{xorBytes, subkey1, subkey2, lastBlock, chain, before, cmacOver, cmac}
 use Rattle.cipher.specs.CmacState.{keyed, begun, clamped, xorAt, fedByte, fed, closedBlock, finished}
-use Rattle.cipher.specs.Laws.{TagOfParts, Bytes, concatAll}
+use Rattle.cipher.specs.Laws.{TagOfParts}
 use Rattle.cipher.proofs.Xor.{xor-assoc}
 use Rattle.cipher.proofs.Cases.{by-test}
 use Rattle.cipher.proofs.Lengths.{with-length}
@@ -140,14 +140,9 @@ pub tag-whole : (key m : List ℕ) → ((i : ℕ) → getD key i 0 < 256) → fi
 unfolding cmac
 tag-whole key m h = tag-over key m ∙ ap (λ (f : List ℕ → List ℕ). cmacOver f m) (fun-ext (encrypt-expanded key h))
 
-bytes-at : (l : List ℕ) → Bytes l → (i : ℕ) → getD l i 0 < 256
-bytes-at [] h i = lit< tt
-bytes-at (b ∷ l) h zero = h .0
-bytes-at (b ∷ l) h (suc i) = bytes-at l (h .1) i
-
 pub tag-of-parts : TagOfParts
 unfolding begun keyed
 tag-of-parts key bytes s e parts =
     ap (λ (t : CmacState). finished t .block)
     (ap (λ (ks : List ℕ). foldl fed (state (replicate 16 0) 0 ks) parts) e ∙ feed-parts (keyed key) parts (omega arith))
-    ∙ tag-whole key (concatAll parts) (bytes-at key bytes)
+    ∙ tag-whole key (flatten parts) bytes

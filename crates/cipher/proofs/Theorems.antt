@@ -1,12 +1,29 @@
--- Every statement of `specs/Laws`, with its proof.
-use Rattle.cipher.specs.Laws.{InverseLaw, FeedAppend, TagOfParts, KeysKept, FullBlock, CtrTwice}
+-- Every statement of `specs/Laws`, with its proof. This is all of `proofs` that other crates use.
+use Rattle.cipher.specs.Laws.{FieldLaw, InverseLaw, SboxLaw, ExpandedKey, StateLaw, FeedAppend, TagOfParts, KeysKept, FullBlock, BigEndian, CtrLaw, CtrTwice, DerivationLaw, LengthLaw}
+use Rattle.cipher.proofs.Product.{field-law}
 use Rattle.cipher.proofs.Inverse.{inverse-law}
-use Rattle.cipher.proofs.Feeds.{feed-append, keys-kept, full-block}
+use Rattle.cipher.proofs.Rule.{sbox-law}
+use Rattle.cipher.proofs.Expanded.{encrypt-expanded}
+use Rattle.cipher.proofs.Feeds.{state-law, feed-append, keys-kept, full-block}
 use Rattle.cipher.proofs.Tag.{tag-of-parts}
-use Rattle.cipher.proofs.CtrLaws.{ctr-twice}
+use Rattle.cipher.proofs.CtrLaws.{big-endian, ctr-law, ctr-twice}
+use Rattle.cipher.proofs.Derivation.{derivation-law}
+use Rattle.cipher.proofs.Lengths.{length-law}
+
+pub field : FieldLaw
+field = field-law
 
 pub inverse : InverseLaw
 inverse = inverse-law
+
+pub substitution : SboxLaw
+substitution = sbox-law
+
+pub expanded : ExpandedKey
+expanded = encrypt-expanded
+
+pub state : StateLaw
+state = state-law
 
 pub division : FeedAppend
 division = feed-append
@@ -20,5 +37,17 @@ keys = keys-kept
 pub pending : FullBlock
 pending = full-block
 
+pub count : BigEndian
+count = big-endian
+
+pub stream : CtrLaw
+stream = ctr-law
+
 pub twice : CtrTwice
 twice = ctr-twice
+
+pub derivation : DerivationLaw
+derivation = derivation-law
+
+pub lengths : LengthLaw
+lengths = length-law

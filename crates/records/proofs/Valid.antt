@@ -8,7 +8,7 @@ use lib.Dec.{eqb, leb}
 use lib.ListN.{length, take, length-drop}
 use lib.Seq.{take-add}
 use borrow.Author.Tests.{eqb-true, leb-true}
-use Rattle.cipher.proofs.Lengths.{cmac-length}
+use Rattle.cipher.proofs.Theorems.{lengths}
 use Rattle.spec.specs.Record.{validFlags, maxDataSize, metadataSizeOf, revisionOf, dataSizeOf, flagsOf, metadataOf, storedDataOf, tagOf, recordValid, recordCmac}
 use Rattle.spec.proofs.Split.{split, both}
 use Rattle.records.specs.Parts.{fieldsValid, zerosValid, cmacOver}
@@ -41,7 +41,7 @@ tag-length r s = let h = s .whole in rw length-drop (omega arith)
 
 pub cmac-over-length : (key name covered : List ℕ) → length (cmacOver key name covered) ≡ 16
 unfolding cmacOver
-cmac-over-length key name covered = cmac-length _ _
+cmac-over-length key name covered = lengths .of-tag _ _
 
 -- metadata and stored data stand side by side
 pub covered-cmac : (key name r : List ℕ) → Sized r

@@ -8,9 +8,7 @@ use borrow.Author.Tests.{eqb-true, leb-true, ltb-true, eq-eqb, le-leb}
 use lib.Dec.{ltb}
 use lib.ListN.{length, length-append}
 use lib.Seq.{take-at, drop-at, take-length}
-use Rattle.cipher.specs.Ctr.{ctr}
-use Rattle.cipher.proofs.CtrLaws.{ctr-twice, ctr-length}
-use Rattle.cipher.proofs.Lengths.{cmac-length}
+use Rattle.cipher.proofs.Theorems.{twice, lengths}
 use Rattle.spec.specs.Bytes.{allZero}
 use Rattle.spec.specs.Record.{requireConfidentiality, requireIntegrity, requireReplayProtection, validFlags, maxDataSize, metadata, metadataSizeOf, revisionOf, dataSizeOf, flagsOf, ivOf, metadataOf, storedDataOf, tagOf, recordValid, encKey, crypt, recordCmac, sealedIv, sealedData, sealedTag, sealRecord, macOk, plaintext, Sealable}
 use Rattle.spec.proofs.Split.{split, both}
@@ -45,16 +43,16 @@ valid-record revision r h =
     }
 
 pub crypt-twice : (key name iv m : List ℕ) → crypt key name iv (crypt key name iv m) ≡ m
-unfolding crypt ctr
-crypt-twice key name iv m = ctr-twice (encKey key name) iv 0 m
+unfolding crypt
+crypt-twice key name iv m = twice .from-zero (encKey key name) iv m
 
 pub crypt-length : (key name iv m : List ℕ) → length (crypt key name iv m) ≡ length m
 unfolding crypt
-crypt-length key name iv m = ctr-length (encKey key name) iv m
+crypt-length key name iv m = lengths .of-ctr (encKey key name) iv m
 
 pub recordCmac-length : (key name meta stored : List ℕ) → length (recordCmac key name meta stored) ≡ 16
 unfolding recordCmac
-recordCmac-length key name meta stored = cmac-length _ _
+recordCmac-length key name meta stored = lengths .of-tag _ _
 
 module _ (revision : ℕ) (key name : List ℕ) (flags : ℕ) (iv value : List ℕ) (ready : Sealable revision flags iv value) where
   abbrev meta : List ℕ

@@ -5,8 +5,9 @@ use native.Mathlib.Omega.{arith}
 use lib.ListN.{length, getD, drop, drop-of-length-le, List·getD-eq-default}
 use mir.Syntax.{w8}
 use borrow.Author.Needs.{needs}
+use borrow.Kind.Array.{eInt, good-length}
 use Rattle.cipher.specs.Cmac.{shiftLeft}
-use Rattle.cipher.proofs.Arrays.{array-length, array-fits}
+use Rattle.cipher.proofs.Arrays.{array-fits}
 use Rattle.cipher.proofs.Blocks.{shift-down}
 use Rattle.cipher.proofs.cmac.shift_left.Statement.{statement}
 use Rattle.cipher.proofs.cmac.shift_left.Tie as tie
@@ -23,7 +24,7 @@ loop-holds : tie.Need-loop-holds Inv-loop μ-loop
 unfolding shiftLeft
 loop-holds c =
     let b = c .args .t1 in
-    let lb = array-length w8 16 b _ (c .good .0) in
+    let lb = good-length (eInt w8) 16 b _ (c .good .0) in
     (search needs, lb, search needs, search needs, rw (List·getD-eq-default b 0 {n = 16} (omega arith)), rw (drop-of-length-le b {i = 16} (omega arith)))
 
 sub-i : tie.Need-sub-i Inv-loop μ-loop

@@ -6,8 +6,8 @@ use native.Mathlib.Omega.{arith}
 use lib.ListN.{length, drop, drop-of-length-le}
 use mir.Syntax.{w8}
 use borrow.Author.Needs.{needs}
+use borrow.Kind.Array.{eInt, good-length}
 use Rattle.cipher.specs.Cmac.{xorBytes}
-use Rattle.cipher.proofs.Arrays.{array-length}
 use Rattle.cipher.proofs.Blocks.{xor-down}
 use Rattle.cipher.proofs.cmac.xor_block.Statement.{statement}
 use Rattle.cipher.proofs.cmac.xor_block.Tie as tie
@@ -23,8 +23,8 @@ abbrev μ-loop : tie.MeasureT-loop
 loop-holds : tie.Need-loop-holds Inv-loop μ-loop
 unfolding xorBytes zipWith
 loop-holds c =
-    let la = array-length w8 16 (c .args .t1) _ (c .good .0) in
-    let lb = array-length w8 16 (c .args .t2) _ (c .good .1 .0) in
+    let la = good-length (eInt w8) 16 (c .args .t1) _ (c .good .0) in
+    let lb = good-length (eInt w8) 16 (c .args .t2) _ (c .good .1 .0) in
     (search needs, la, lb, search needs, rw (drop-of-length-le (c .args .t1) {i = 16} (omega arith)))
 
 sub-i : tie.Need-sub-i Inv-loop μ-loop

@@ -4,9 +4,9 @@ use mathlib.Core.List.{List, _++_}
 use Prim.Native.Nat.{ℕ}
 use mir.Syntax.{w8}
 use borrow.Author.Needs.{needs}
+use borrow.Kind.Array.{eInt, good-length}
 use Rattle.cipher.specs.Sbox.{tableFrom}
 use Rattle.cipher.specs.Ctr.{counterBlock, be64}
-use Rattle.cipher.proofs.Arrays.{array-length}
 use Rattle.cipher.proofs.Stream.{list-table}
 use Rattle.cipher.proofs.ctr.counter_block.Statement.{statement}
 use Rattle.cipher.proofs.ctr.counter_block.Tie as tie
@@ -63,7 +63,7 @@ cast-t50 c = search needs
 
 returns : tie.Need-returns
 unfolding counterBlock tableFrom be64
-returns c = ap (λ (l : List ℕ). l ++ be64 (c .args .count)) (list-table (c .args .t1) 8 (array-length w8 8 (c .args .t1) _ (c .good .0)))
+returns c = ap (λ (l : List ℕ). l ++ be64 (c .args .count)) (list-table (c .args .t1) 8 (good-length (eInt w8) 8 (c .args .t1) _ (c .good .0)))
 
 pub counter-block-spec : {M : Type 1} → statement M
 counter-block-spec =

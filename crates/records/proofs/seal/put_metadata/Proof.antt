@@ -5,7 +5,7 @@ use Prim.Native.Nat.{ℕ, _+_}
 use lib.ListN.{drop}
 use mir.Syntax.{w8}
 use borrow.Author.Needs.{needs}
-use Rattle.cipher.proofs.Arrays.{array-length}
+use borrow.Kind.Array.{eInt, good-length}
 use Rattle.spec.specs.Bytes.{leBytes}
 use Rattle.spec.specs.Record.{metadata}
 use Rattle.records.specs.Parts.{putAt}
@@ -40,7 +40,7 @@ returns c =
     let start = c .before .before .before .before .before .before .before .before .before .before .before .before .before .before .before .before .before .before .before .before .before .before in
     let a = start .args in
     let d = a .dst .now in
-    let iv-sized = array-length w8 8 (a .t4) _ (start .good .1 .1 .1 .0) in
+    let iv-sized = good-length (eInt w8) 8 (a .t4) _ (start .good .1 .1 .1 .0) in
     let f1 = leBytes 2 20 in
     let f2 = f1 ++ leBytes 2 (a .revision) in
     let f3 = f2 ++ leBytes 4 (a .data-size) in
