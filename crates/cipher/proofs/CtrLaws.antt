@@ -13,6 +13,14 @@ use Rattle.cipher.specs.Laws.{BigEndian, CtrLaw, CtrTwice}
 use Rattle.cipher.proofs.Xor.{xor-twice}
 
 module _ (ciph : List ℕ → List ℕ) (iv : List ℕ) (count : ℕ) where
+  from-at : (j : ℕ) (m : List ℕ) (i : ℕ) → i < length m
+      → getD (ctrFrom ciph iv count j m) i 0 ≡ bitXor (getD m i 0) (streamByte ciph iv count (j + i))
+  unfolding ctrFrom
+  from-at j [] i h = absurd (not-suc-le-zero h)
+  from-at j (b ∷ bs) zero h = ap (λ (k : ℕ). bitXor b (streamByte ciph iv count k)) (omega arith)
+  from-at j (b ∷ bs) (suc i) h =
+      from-at (suc j) bs i (le-of-suc-le-suc h) ∙ ap (λ (k : ℕ). bitXor (getD bs i 0) (streamByte ciph iv count k)) (omega arith)
+
   from-twice : (j : ℕ) (m : List ℕ) → ctrFrom ciph iv count j (ctrFrom ciph iv count j m) ≡ m
   unfolding ctrFrom
   from-twice j [] = refl
@@ -22,25 +30,6 @@ module _ (ciph : List ℕ → List ℕ) (iv : List ℕ) (count : ℕ) where
   unfolding ctrFrom
   from-length j [] = refl
   from-length j (b ∷ bs) = ap suc (from-length (suc j) bs)
-
-  from-at : (j : ℕ) (m : List ℕ) (i : ℕ) → i < length m → getD (ctrFrom ciph iv count j m) i 0 ≡ bitXor (getD m i 0) (streamByte ciph iv count (j + i))
-  unfolding ctrFrom
-  from-at j [] i h = absurd (not-suc-le-zero h)
-  from-at j (b ∷ bs) zero h = ap (λ (k : ℕ). bitXor b (streamByte ciph iv count k)) (omega arith)
-  from-at j (b ∷ bs) (suc i) h =
-      from-at (suc j) bs i (le-of-suc-le-suc h) ∙ ap (λ (k : ℕ). bitXor (getD bs i 0) (streamByte ciph iv count k)) (omega arith)
-
-pub ctr-twice : CtrTwice
-unfolding ctr ctrAt
-ctr-twice = record { from-zero = λ key iv m. from-twice (aes128 key) iv 0 0 m; from-count = λ key iv count m. from-twice (aes128 key) iv count 0 m }
-
-pub ctr-at-length : (key iv : List ℕ) (count : ℕ) (m : List ℕ) → length (ctrAt key iv count m) ≡ length m
-unfolding ctrAt
-ctr-at-length key iv count m = from-length (aes128 key) iv count 0 m
-
-pub ctr-length : (key iv m : List ℕ) → length (ctr key iv m) ≡ length m
-unfolding ctr
-ctr-length key iv m = ctr-at-length key iv 0 m
 
 ctr-at-byte : (key iv : List ℕ) (count : ℕ) (m : List ℕ) (j : ℕ) → j < length m
     → getD (ctrAt key iv count m) j 0 ≡ bitXor (getD m j 0) (getD (aes128 key (iv ++ be64 ((count + j / 16) % 2 ^ 64))) (j % 16) 0)
@@ -66,6 +55,18 @@ ctr-law = record {
       ∙ ap (λ (l : List ℕ). bitXor (getD m j 0) (getD (aes128 key (iv ++ l)) (j % 16) 0)) (be64-wraps (0 + j / 16) ∙ ap be64 (zero-add (j / 16)));
   from-count = ctr-at-byte;
 }
+
+pub ctr-twice : CtrTwice
+unfolding ctr ctrAt
+ctr-twice = record { from-zero = λ key iv m. from-twice (aes128 key) iv _ 0 m; from-count = λ key iv count m. from-twice (aes128 key) iv count 0 m }
+
+pub ctr-at-length : (key iv : List ℕ) (count : ℕ) (m : List ℕ) → length (ctrAt key iv count m) ≡ length m
+unfolding ctrAt
+ctr-at-length key iv count m = from-length (aes128 key) iv count 0 m
+
+pub ctr-length : (key iv m : List ℕ) → length (ctr key iv m) ≡ length m
+unfolding ctr
+ctr-length key iv m = ctr-at-length key iv _ m
 
 -- the places of the eight bytes
 byte-at : (n i : ℕ) → i < 8 → getD (be64 n) i 0 ≡ n / 256 ^ (7 - i) % 256

@@ -1,15 +1,17 @@
 -- Feeding in parts is feeding the whole. Assumes nothing.
 use mathlib.Core.Path.{_≡_, refl, sym, ap, _∙_}
-use mathlib.Core.List.{List, [], _∷_, foldl, foldl-append, flatten}
+use mathlib.Core.List.{List, [], _∷_, foldl, foldl-append, flatten, zipWith}
 use Prim.Native.Nat.{ℕ, _≤_, _<_, min}
 use native.Mathlib.Nat.{min-eq-left, min-le-right}
 use native.Mathlib.Omega.{arith}
+use lib.Bits.{bitXor}
 use lib.Dec.{ltb}
-use borrow.Author.Tests.{ltb-true}
+use lib.ListN.{getD, set, replicate}
+use borrow.Author.Tests.{ltb-true, lt-ltb}
 use Rattle.cipher.specs.declared.cmac.CmacState.{CmacState}
 use Rattle.cipher.specs.Aes.{encryptWith}
-use Rattle.cipher.specs.Cmac.{subkey1, subkey2}
-use Rattle.cipher.specs.CmacState.{keyed, begun, clamped, fedByte, fed, closedBlock, finished}
+use Rattle.cipher.specs.Cmac.{xorBytes, double, subkey1, subkey2}
+use Rattle.cipher.specs.CmacState.{keyed, begun, clamped, xorAt, fedByte, fed, closedBlock, finished}
 use Rattle.cipher.specs.Laws.{StateLaw, FeedAppend, KeysKept, FullBlock}
 use Rattle.cipher.proofs.Cases.{by-test}
 use Rattle.cipher.proofs.Fold.{state, fed-short, fed-full}
@@ -64,6 +66,17 @@ fed-next s b h =
     fed-one s b (omega arith) ∙ fed-full (s .block) (s .keys) (s .pending) b (omega arith)
     ∙ sym (fed-one next b (omega arith) ∙ fed-short (encryptWith (s .keys) (s .block)) (s .keys) 0 b (omega arith))
 
+end-full : (s : CmacState) → s .pending ≡ 16
+    → finished s .block ≡ encryptWith (s .keys) (zipWith bitXor (s .block) (double (encryptWith (s .keys) (replicate 16 0))))
+unfolding finished closedBlock xorBytes subkey1 subkey2
+end-full s h = let e : min (s .pending) 16 ≡ 16 = omega arith in rw e
+
+end-short : (s : CmacState) → s .pending < 16
+    → let closed = set (s .block) (s .pending) (bitXor (getD (s .block) (s .pending) 0) 0x80) in
+    finished s .block ≡ encryptWith (s .keys) (zipWith bitXor closed (double (double (encryptWith (s .keys) (replicate 16 0)))))
+unfolding finished closedBlock xorBytes xorAt subkey1 subkey2
+end-short s h = let e : min (s .pending) 16 ≡ s .pending = omega arith in rw (e, lt-ltb (s .pending) 16 h)
+
 pub state-law : StateLaw
 unfolding keyed begun fed finished
 state-law = record {
@@ -73,11 +86,13 @@ state-law = record {
   fed-short = λ s b h. fed-one s b (omega arith) ∙ fed-short (s .block) (s .keys) (s .pending) b h;
   fed-full = fed-next;
   finished-none = λ s. refl;
+  finished-full = end-full;
+  finished-short = end-short;
 }
 
 pub keys-kept : KeysKept
-unfolding keyed begun finished
-keys-kept = record { in-keyed = λ key. refl; in-begun = λ s. refl; in-fed = fed-keys; in-finished = λ s. refl }
+unfolding finished
+keys-kept = record { in-fed = fed-keys; in-finished = λ s. refl }
 
 -- more than a block holds counts as a full one
 clamped-full : (s : CmacState) → 16 < s .pending → min (s .pending) 16 ≡ 16

@@ -13,7 +13,7 @@ pub block-length : (s : State) → length (blockOf s) ≡ 16
 unfolding blockOf wordBytes
 block-length s = refl
 
-aes-length : (key block : List ℕ) → length (aes128 key block) ≡ 16
+pub aes-length : (key block : List ℕ) → length (aes128 key block) ≡ 16
 unfolding aes128
 aes-length key block = block-length _
 

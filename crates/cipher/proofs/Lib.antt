@@ -11,6 +11,7 @@ pub mod Fold
 pub mod Cases
 pub mod Feeds
 pub mod Tag
+pub mod Chain
 pub mod Salt
 pub mod Stream
 pub mod Product

@@ -88,18 +88,22 @@ unfolding times
 times-lt zero a b h = lit< tt
 times-lt (suc k) a b h = xor-lt 8 (b % 2 * a) (times k (xtime a) (b / 2)) (bit-lt (b % 2) a (digit b) h) (times-lt k (xtime a) (b / 2) (xtime-lt a h))
 
-pub mul-lt : (a b : ℕ) → a < 256 → mul a b < 256
-unfolding mul
-mul-lt a b h = times-lt 8 a b h
-
 times-zero : (k a : ℕ) → times k a 0 ≡ 0
 unfolding times
 times-zero zero a = refl
 times-zero (suc k) a = rw (zero-mul a) (times-zero k (xtime a))
 
+times-one : (k a : ℕ) → times (suc k) a 1 ≡ a
+unfolding times
+times-one k a = rw (one-mul a, times-zero k (xtime a)) (xor-zero-r a)
+
 mul-one : (a : ℕ) → mul a 1 ≡ a
-unfolding mul times
-mul-one a = rw (one-mul a, times-zero 7 (xtime a)) (xor-zero-r a)
+unfolding mul
+mul-one a = times-one 7 a
+
+pub mul-lt : (a b : ℕ) → a < 256 → mul a b < 256
+unfolding mul
+mul-lt a b h = times-lt 8 a b h
 
 -- linear in either factor
 times-sum : (k a b c : ℕ) → times k a (bitXor b c) ≡ bitXor (times k a b) (times k a c)

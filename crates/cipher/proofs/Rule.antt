@@ -38,6 +38,7 @@ pub sbox-law : SboxLaw
 unfolding affineBit bit subByte sbox tableFrom
 sbox-law = record {
   entries = refl;
+  entry = sbox-at;
   fits = λ b h. rw (sbox-at b h) (sub-lt b);
   affine-bit = λ b i h k. ap (λ (n : ℕ). n / 2 ^ i % 2) (sbox-at b h) ∙ affine-digit (inverse b) i k ∙ sum-odd _ _ _ _ _ _;
 }

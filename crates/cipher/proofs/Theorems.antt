@@ -1,9 +1,11 @@
 -- Every statement of `specs/Laws`, with its proof. This is all of `proofs` that other crates use.
-use Rattle.cipher.specs.Laws.{FieldLaw, InverseLaw, SboxLaw, ExpandedKey, StateLaw, FeedAppend, TagOfParts, KeysKept, FullBlock, BigEndian, CtrLaw, CtrTwice, DerivationLaw, LengthLaw}
+use Rattle.cipher.specs.Laws.{FieldLaw, InverseLaw, SboxLaw, ExpandedKey, DoubleLaw, CmacLaw}
+use Rattle.cipher.specs.Laws.{StateLaw, FeedAppend, TagOfParts, KeysKept, FullBlock, BigEndian, CtrLaw, CtrTwice, DerivationLaw, LengthLaw}
 use Rattle.cipher.proofs.Product.{field-law}
 use Rattle.cipher.proofs.Inverse.{inverse-law}
 use Rattle.cipher.proofs.Rule.{sbox-law}
 use Rattle.cipher.proofs.Expanded.{encrypt-expanded}
+use Rattle.cipher.proofs.Chain.{double-law, cmac-law}
 use Rattle.cipher.proofs.Feeds.{state-law, feed-append, keys-kept, full-block}
 use Rattle.cipher.proofs.Tag.{tag-of-parts}
 use Rattle.cipher.proofs.CtrLaws.{big-endian, ctr-law, ctr-twice}
@@ -21,6 +23,12 @@ substitution = sbox-law
 
 pub expanded : ExpandedKey
 expanded = encrypt-expanded
+
+pub doubling : DoubleLaw
+doubling = double-law
+
+pub chaining : CmacLaw
+chaining = cmac-law
 
 pub state : StateLaw
 state = state-law

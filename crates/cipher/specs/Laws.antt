@@ -1,15 +1,15 @@
 -- What is proved of the definitions. `proofs/Theorems` has each statement with its proof. As far as can be, a statement says in the library's words what
 -- a definition gives, so that another definition under the same name would not do.
 use mathlib.Core.Path.{_≡_}
-use mathlib.Core.List.{List, [], _∷_, _++_, foldl, flatten}
+use mathlib.Core.List.{List, [], _∷_, _++_, foldl, flatten, zipWith}
 use Prim.Native.Nat.{ℕ, _+_, _-_, _*_, _/_, _%_, _^_, _≤_, _<_}
 use lib.Bits.{bitXor}
-use lib.ListN.{length, getD, set, take, replicate}
+use lib.ListN.{length, getD, set, take, drop, replicate}
 use Rattle.cipher.specs.declared.cmac.CmacState.{CmacState}
 use Rattle.cipher.specs.Field.{xtime, mul}
-use Rattle.cipher.specs.Sbox.{inverse, sbox}
+use Rattle.cipher.specs.Sbox.{inverse, subByte, sbox}
 use Rattle.cipher.specs.Aes.{aes128, expandKey, encryptWith}
-use Rattle.cipher.specs.Cmac.{cmac}
+use Rattle.cipher.specs.Cmac.{xorBytes, double, cmac}
 use Rattle.cipher.specs.CmacState.{keyed, begun, fed, finished}
 use Rattle.cipher.specs.Ctr.{be64, ctrAt, ctr}
 use Rattle.cipher.specs.Kdf.{encPrefix, authPrefix, salt, kdf, derivedKey}
@@ -34,6 +34,7 @@ pub record InverseLaw : Type 0 where
 -- i, i + 4, i + 5, i + 6, i + 7, taken modulo 8, of the inverse, and of bit i of 0x63.
 pub record SboxLaw : Type 0 where
   pub entries : length sbox ≡ 256
+  pub entry : (b : ℕ) → b < 256 → getD sbox b 0 ≡ subByte b
   pub fits : (b : ℕ) → b < 256 → getD sbox b 0 < 256
   pub affine-bit : (b i : ℕ) → b < 256 → i < 8
       → let c = inverse b in
@@ -44,8 +45,28 @@ pub record SboxLaw : Type 0 where
 abbrev pub ExpandedKey : Type 0
 ExpandedKey = (key : List ℕ) → ((i : ℕ) → getD key i 0 < 256) → (block : List ℕ) → encryptWith (expandKey key) block ≡ aes128 key block
 
--- 01: a CMAC "is begun, fed and finished". What each does to the state, for one byte and for none; `FeedAppend` says the rest. A full block is
--- encrypted when the next byte comes, since it may have been the last one.
+-- SP 800-38B, 6.1: the doubling of a block. The bits move one place to the left, and where the first one is lost, 10000111 is added to the last byte.
+pub record DoubleLaw : Type 0 where
+  pub bytes : (b : List ℕ) → length b ≡ 16 → length (double b) ≡ 16
+  pub byte-at : (b : List ℕ) (i : ℕ) → length b ≡ 16 → i < 15 → getD (double b) i 0 ≡ 2 * getD b i 0 % 256 + getD b (i + 1) 0 / 128
+  pub last-kept : (b : List ℕ) → length b ≡ 16 → getD b 0 0 < 128 → getD (double b) 15 0 ≡ 2 * getD b 15 0 % 256
+  pub last-lost : (b : List ℕ) → length b ≡ 16 → 128 ≤ getD b 0 0 → getD (double b) 15 0 ≡ bitXor (2 * getD b 15 0 % 256) 0x87
+
+-- SP 800-38B, 6.2: the tag of one whole block, and of less than one; of a block with less than one behind it; and of a block with more behind it,
+-- which is the tag of the rest with the encrypted block added to its front. Every message is one of these, so no other tag obeys them.
+pub record CmacLaw : Type 0 where
+  pub added : (a b : List ℕ) → xorBytes a b ≡ zipWith bitXor a b
+  pub full : (key m : List ℕ) → length m ≡ 16 → cmac key m ≡ aes128 key (zipWith bitXor m (double (aes128 key (replicate 16 0))))
+  pub short : (key m : List ℕ) → length m < 16
+      → cmac key m ≡ aes128 key (zipWith bitXor (m ++ 0x80 ∷ replicate (15 - length m) 0) (double (double (aes128 key (replicate 16 0)))))
+  pub block-short : (key b m : List ℕ) → length b ≡ 16 → 0 < length m → length m < 16
+      → let last = zipWith bitXor (m ++ 0x80 ∷ replicate (15 - length m) 0) (double (double (aes128 key (replicate 16 0)))) in
+      cmac key (b ++ m) ≡ aes128 key (zipWith bitXor (aes128 key b) last)
+  pub block-more : (key b m : List ℕ) → length b ≡ 16 → 16 ≤ length m
+      → cmac key (b ++ m) ≡ cmac key (zipWith bitXor (aes128 key b) (take 16 m) ++ drop 16 m)
+
+-- 01: a CMAC "is begun, fed and finished". What each does to the state; feeding, for one byte and for none, and `FeedAppend` says the rest. A
+-- full block is encrypted when the next byte comes, since it may have been the last one.
 pub record StateLaw : Type 0 where
   pub keyed-is : (key : List ℕ) → keyed key ≡ record { block = replicate 16 0; pending = 0; keys = expandKey key }
   pub begun-is : (s : CmacState) → begun s ≡ record { block = replicate 16 0; pending = 0; keys = s .keys }
@@ -56,6 +77,11 @@ pub record StateLaw : Type 0 where
   pub fed-full : (s : CmacState) (b : ℕ) → s .pending ≡ 16
       → fed s (b ∷ []) ≡ fed (record { block = encryptWith (s .keys) (s .block); pending = 0; keys = s .keys }) (b ∷ [])
   pub finished-none : (s : CmacState) → finished s .pending ≡ 0
+  pub finished-full : (s : CmacState) → s .pending ≡ 16
+      → finished s .block ≡ encryptWith (s .keys) (zipWith bitXor (s .block) (double (encryptWith (s .keys) (replicate 16 0))))
+  pub finished-short : (s : CmacState) → s .pending < 16
+      → let closed = set (s .block) (s .pending) (bitXor (getD (s .block) (s .pending) 0) 0x80) in
+      finished s .block ≡ encryptWith (s .keys) (zipWith bitXor closed (double (double (encryptWith (s .keys) (replicate 16 0)))))
 
 -- 01: "How the message is divided between feeds makes no difference", from any state
 abbrev pub FeedAppend : Type 0
@@ -66,10 +92,8 @@ abbrev pub TagOfParts : Type 0
 TagOfParts = (key : List ℕ) → ((i : ℕ) → getD key i 0 < 256) → (s : CmacState) → s .keys ≡ expandKey key → (parts : List (List ℕ))
     → finished (foldl fed (begun s) parts) .block ≡ cmac key (flatten parts)
 
--- a state stands for its key from beginning to end, so that it can begin again
+-- a state stands for its key to the end, so that it can begin again
 pub record KeysKept : Type 0 where
-  pub in-keyed : (key : List ℕ) → keyed key .keys ≡ expandKey key
-  pub in-begun : (s : CmacState) → begun s .keys ≡ s .keys
   pub in-fed : (s : CmacState) (m : List ℕ) → fed s m .keys ≡ s .keys
   pub in-finished : (s : CmacState) → finished s .keys ≡ s .keys
 
