@@ -6,7 +6,7 @@ use keys::persist;
 ghost use mathlib.Core.Path.{_≡_};
 ghost use Rattle.keys.specs.Calls as Keys;
 ghost use Rattle.keys.specs.KeyFile.{parseKeyFile};
-ghost use Rattle.ffi.specs.Answers.{written, got, attributes, parsed};
+ghost use Rattle.ffi.specs.Answers.{written, got};
 
 #[no_mangle]
 pub extern "C" fn securestore_format_key_file(
@@ -19,7 +19,7 @@ pub extern "C" fn securestore_format_key_file(
     key_buf: &mut [u8],
     count: &mut usize,
 ) -> u32
-    ensures { λ r. ⌜ got r (now (count .exit)) (now («key_buf» .exit)) ≡ Keys.writeKeyFile (attributes lifetime «key_type» usage alg «enrollment_alg») (now (material .entry)) (now («key_buf» .entry)) ⌝ }
+    ensures { λ r. ⌜ got r (now (count .exit)) (now («key_buf» .exit)) ≡ Keys.writeKeyFile (record { lifetime = lifetime; «key_type» = «key_type»; usage = usage; alg = alg; «enrollment_alg» = «enrollment_alg» }) (now (material .entry)) (now («key_buf» .entry)) ⌝ }
 {
     let attributes = KeyAttributes {
         lifetime,
@@ -48,7 +48,7 @@ pub extern "C" fn securestore_save_key(
     flags: u32,
     iv: &[u8],
 ) -> u32
-    ensures { λ r. ⌜ written r (now (kv .exit)) (now (rbp .exit)) ≡ Keys.saveKey (now (kv .entry)) (now (rbp .entry)) (now («device_key» .entry)) «key_id» (attributes lifetime «key_type» usage alg «enrollment_alg») (now (material .entry)) flags (now (iv .entry)) ⌝ }
+    ensures { λ r. ⌜ written r (now (kv .exit)) (now (rbp .exit)) ≡ Keys.saveKey (now (kv .entry)) (now (rbp .entry)) (now («device_key» .entry)) «key_id» (record { lifetime = lifetime; «key_type» = «key_type»; usage = usage; alg = alg; «enrollment_alg» = «enrollment_alg» }) (now (material .entry)) flags (now (iv .entry)) ⌝ }
 {
     let attributes = KeyAttributes {
         lifetime,
@@ -87,7 +87,7 @@ pub extern "C" fn securestore_parse_key_file(
     enrollment_alg: &mut u32,
     material_len: &mut u32,
 ) -> u32
-    ensures { λ r. ⌜ parsed r (attributes (now (lifetime .exit)) (now («key_type» .exit)) (now (usage .exit)) (now (alg .exit)) (now («enrollment_alg» .exit))) (now («material_len» .exit)) ≡ parseKeyFile (now (file .entry)) ⌝ }
+    ensures { λ r. ⌜ record { status = r; attributes = record { lifetime = now (lifetime .exit); «key_type» = now («key_type» .exit); usage = now (usage .exit); alg = now (alg .exit); «enrollment_alg» = now («enrollment_alg» .exit) }; «material_len» = now («material_len» .exit) } ≡ parseKeyFile (now (file .entry)) ⌝ }
 {
     let answer = parse::parse_key_file(file);
     let read = answer.attributes;
