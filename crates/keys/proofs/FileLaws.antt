@@ -1,7 +1,7 @@
 -- A file and what it says determine each other. Assumes nothing.
-use mathlib.Core.Path.{_≡_, refl, sym, ap, _∙_}
+use mathlib.Core.Path.{_≡_, refl, sym, ap, subst, _∙_}
 use mathlib.Core.List.{List, [], _∷_, _++_}
-use Prim.Native.Nat.{ℕ, _+_, _≤_}
+use Prim.Native.Nat.{ℕ, _+_, _^_, _≤_, _<_}
 use native.Mathlib.Omega.{arith}
 use lib.ListN.{length, getD, take, drop, length-drop}
 use lib.Seq.{take-at}
@@ -10,8 +10,8 @@ use Rattle.spec.specs.Status.{ok}
 use Rattle.spec.specs.Shapes.{AreBytes}
 use Rattle.spec.proofs.Bytes.{le-value}
 use Rattle.spec.proofs.Shapes.{front, front-drop, four-bytes}
-use Rattle.keys.specs.KeyFile.{mark, keyFileHeader, formatKeyFile, versionOf, attributesOf, materialLengthOf, materialOf, parseKeyFile}
-use Rattle.keys.specs.Laws.{Fits, WellFormed, ParseExact, FormatParses, ParsedIsWritten, ReaderExact, FileWritten}
+use Rattle.keys.specs.KeyFile.{mark, keyFileHeader, formatKeyFile, attributesOf, parseKeyFile}
+use Rattle.keys.specs.Laws.{Fits, WellFormed, WrittenFile, FileLayout, ParseExact, ReaderExact}
 use Rattle.keys.specs.declared.key_file.KeyAttributes.{KeyAttributes}
 use Rattle.keys.specs.declared.key_file.KeyFile.{KeyFile}
 use Rattle.keys.specs.declared.parse.Header.{Header}
@@ -22,17 +22,6 @@ use Rattle.keys.proofs.Loaded.{file-valid}
 pub accepted-formed : (f : List ℕ) → parseKeyFile f .status ≡ ok → WellFormed f
 accepted-formed f h = well-formed f (file-valid f h)
 
-material-long : (f : List ℕ) → WellFormed f → materialLengthOf f ≡ length (materialOf f)
-material-long f w = omega (arith, length-drop 36 f, w .whole)
-
-pub parse-exact : ParseExact
-parse-exact = record {
-  condition = λ f. (accepted-formed f, λ w. ap (λ (k : KeyFile). k .status) (parse-done f w));
-  attributes = λ f w. ap (λ (k : KeyFile). k .attributes) (parse-done f w);
-  material = λ f w. ap (λ (k : KeyFile). k .«material_len») (parse-done f w) ∙ material-long f w;
-  refusal = λ f n. parse-refused f n;
-}
-
 -- ---- a written file
 
 module _ (a : KeyAttributes) (m : List ℕ) where
@@ -40,15 +29,11 @@ module _ (a : KeyAttributes) (m : List ℕ) where
   unfolding formatKeyFile keyFileHeader
   written-mark = refl
 
-  written-version : versionOf (formatKeyFile a m) ≡ 0
+  written-version : u32At (formatKeyFile a m) 8 ≡ 0
   unfolding formatKeyFile keyFileHeader
   written-version = refl
 
-  written-material : materialOf (formatKeyFile a m) ≡ m
-  unfolding formatKeyFile keyFileHeader
-  written-material = refl
-
-  written-size : length m ≤ 444 → materialLengthOf (formatKeyFile a m) ≡ length m
+  written-size : length m ≤ 444 → u32At (formatKeyFile a m) 32 ≡ length m
   unfolding formatKeyFile keyFileHeader
   written-size h = le-value 4 (length m) (omega arith)
 
@@ -73,9 +58,6 @@ module _ (a : KeyAttributes) (m : List ℕ) where
       parse-done (formatKeyFile a m) (written-formed h)
       ∙ λ i. record { status = ok; attributes = written-attributes f i; «material_len» = written-size h i }
 
-pub format-parses : FormatParses
-format-parses = record { parsed = written-parsed; material-back = written-material }
-
 -- ---- an accepted file
 
 module _ (f : List ℕ) (b : AreBytes f) (w : WellFormed f) where
@@ -92,21 +74,42 @@ module _ (f : List ℕ) (b : AreBytes f) (w : WellFormed f) where
   marked : front 8 0 f ≡ mark
   marked = sym (take-at (front 8 0 f) (drop 8 f) 8 refl) ∙ ap (take 8) (sym (split-at 8 (omega (arith, w .header)))) ∙ w .marked
 
-  header : front 36 0 f ≡ keyFileHeader (attributesOf f) (length (materialOf f))
+  small : (k : ℕ) → u32At f k < 2 ^ 32
+  small k = omega (arith, b k, b (k + 1), b (k + 2), b (k + 3))
+
+  material-long : u32At f 32 ≡ length (drop 36 f)
+  material-long = omega (arith, length-drop 36 f, w .whole)
+
+  header : front 36 0 f ≡ keyFileHeader (attributesOf f) (length (drop 36 f))
   unfolding keyFileHeader
   header =
       let version = four 8 ∙ ap (leBytes 4) (w .version-0) in
-      let size = four 32 ∙ ap (leBytes 4) (material-long f w) in
+      let size = four 32 ∙ ap (leBytes 4) material-long in
       λ i. marked i ++ (version i ++ (four 12 i ++ (four 16 i ++ (four 20 i ++ (four 24 i ++ (four 28 i ++ size i))))))
 
-  formed-written : f ≡ formatKeyFile (attributesOf f) (materialOf f)
+  formed-written : WrittenFile f
   unfolding formatKeyFile
-  formed-written = split-at 36 (w .header) ∙ ap (λ (h : List ℕ). h ++ drop 36 f) header
+  formed-written = record {
+    attributes = attributesOf f;
+    material = drop 36 f;
+    fits = record { lifetime = small 12; key-type = small 16; usage = small 20; alg = small 24; enrollment-alg = small 28 };
+    short = omega (arith, material-long, w .material-short);
+    bytes = split-at 36 (w .header) ∙ ap (λ (h : List ℕ). h ++ drop 36 f) header;
+  }
 
-pub parsed-is-written : ParsedIsWritten
-parsed-is-written f b h =
-    let w = accepted-formed f h in
-    formed-written f b w ∙ ap (λ (a : KeyAttributes). formatKeyFile a (materialOf f)) (sym (ap (λ (k : KeyFile). k .attributes) (parse-done f w)))
+formed-accepted : (f : List ℕ) → WellFormed f → parseKeyFile f .status ≡ ok
+formed-accepted f w = ap (λ (k : KeyFile). k .status) (parse-done f w)
+
+pub parse-exact : ParseExact
+parse-exact = record {
+  condition = λ f b. (
+    λ h. formed-written f b (accepted-formed f h),
+    λ w. formed-accepted f (subst WellFormed (sym (w .bytes)) (written-formed (w .attributes) (w .material) (w .short))),
+  );
+  rules = λ f. (accepted-formed f, formed-accepted f);
+  gives = written-parsed;
+  refusal = parse-refused;
+}
 
 pub reader-exact : ReaderExact
 reader-exact = record {
@@ -114,6 +117,6 @@ reader-exact = record {
   fields = header-read;
 }
 
-pub file-written : FileWritten
+pub file-layout : FileLayout
 unfolding formatKeyFile keyFileHeader
-file-written = refl
+file-layout = record { bytes = λ a m. refl; one = refl }

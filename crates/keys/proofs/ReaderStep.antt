@@ -34,11 +34,10 @@ use denote.Triple.Statement.{Contract, Triple}
 use denote.Triple.Call.{calls-at}
 use denote.Triple.Spec.{tripleOf}
 use denote.Triple.Clauses.{Clauses, closing, ensured, lasts}
-use Rattle.keys.specs.Reader.{takenOf}
 use Rattle.keys.specs.declared.fields.Field.{Field}
 use Rattle.keys.specs.declared.reader.KeyFileReader.{KeyFileReader}
 use Rattle.keys.specs.declared.reader.Taken.{Taken}
-use Rattle.keys.proofs.ReaderWalk.{moved, Own}
+use Rattle.keys.proofs.ReaderWalk.{moved, takenOf, Own}
 use Rattle.keys.proofs.reader.KeyFileReader as T
 use Rattle.keys.proofs.reader.KeyFileReader.Laws as T′
 use Rattle.keys.proofs.reader.Taken as R

@@ -37,11 +37,10 @@ use denote.Triple.Entry.{Args, Vals, onEntry}
 use denote.Triple.Spec.{Meets, tripleOf}
 use denote.Triple.Walked.{Stays, stay-ref, walkOf, goes-ref, Walks, ends-at, walked, walk-meets}
 use denote.Triple.Clauses.{Clauses, AtExit, atExit, closing, ensured, lasts}
-use Rattle.keys.specs.Reader.{takenOf}
 use Rattle.keys.specs.declared.fields.Field.{Field}
 use Rattle.keys.specs.declared.reader.KeyFileReader.{KeyFileReader}
 use Rattle.keys.specs.declared.reader.Taken.{Taken}
-use Rattle.keys.proofs.ReaderWalk.{file-val, moved, Own, Lent, lent, put, typed, typed-field}
+use Rattle.keys.proofs.ReaderWalk.{file-val, moved, takenOf, Own, Lent, lent, put, typed, typed-field}
 use Rattle.keys.proofs.reader.KeyFileReader as T
 use Rattle.keys.proofs.reader.KeyFileReader.Laws as T′
 use Rattle.keys.proofs.fields.Field as S

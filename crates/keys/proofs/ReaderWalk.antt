@@ -28,6 +28,7 @@ use denote.Struct.Rest.{all-own, ownAt, rest, own-open, own-out, own-put}
 use denote.Struct.Values.{Values}
 use Rattle.keys.specs.declared.fields.Field.{Field}
 use Rattle.keys.specs.declared.reader.KeyFileReader.{KeyFileReader}
+use Rattle.keys.specs.declared.reader.Taken.{Taken}
 use Rattle.keys.proofs.reader.KeyFileReader as T
 use Rattle.keys.proofs.reader.KeyFileReader.Laws as T′
 use Rattle.keys.proofs.fields.Field as S
@@ -40,6 +41,10 @@ file-val h = sliceVal (h .file .ptr) (length (h .file .now))
 -- a reader at another place
 abbrev pub moved : KeyFileReader → ℕ → KeyFileReader
 moved h n = record { file = h .file; pos = n }
+
+-- the answer to a field that is taken: the place is the reader's
+abbrev pub takenOf : Field → Taken
+takenOf f = record { status = f .status; value = f .value }
 
 -- what a reader owns, and what its file owns
 abbrev pub Own : NamedLft → KeyFileReader → Fml

@@ -1,19 +1,20 @@
 -- Laws of a field taken at a place. Assumes nothing.
 use mathlib.Core.Path.{_≡_, _∙_}
 use mathlib.Core.Bool.{true, false}
-use mathlib.Core.List.{List, []}
-use Prim.Native.Nat.{ℕ, _+_, _-_, _≤_, _<_}
+use mathlib.Core.List.{List, [], _++_}
+use Prim.Native.Nat.{ℕ, _+_, _-_, _/_, _%_, _^_, _≤_, _<_}
 use native.Mathlib.Omega.{arith}
 use borrow.Author.Tests.{leb-true, le-leb, lt-leb}
 use lib.Dec.{leb}
-use lib.ListN.{length, take, drop, length-drop}
-use lib.Seq.{take-all}
-use Rattle.spec.specs.Bytes.{bytesEq, u32At}
+use lib.ListN.{length, take, drop}
+use lib.Seq.{take-all, getD-append-seam, getD-append-add}
+use Rattle.spec.specs.Bytes.{bytesEq, leBytes, u32At}
 use Rattle.spec.proofs.Split.{split, both}
-use Rattle.spec.proofs.Bytes.{bytesEq-eq, eq-bytesEq}
-use Rattle.keys.specs.KeyFile.{mark, materialLengthOf, materialOf}
+use Rattle.spec.proofs.Bytes.{bytesEq-eq, eq-bytesEq, le-value}
+use Rattle.keys.specs.KeyFile.{mark, keyFileHeader, formatKeyFile}
 use Rattle.keys.specs.Reader.{hasBytes, takenAt, markAt, fieldAt, bytesAt, partAt}
-use Rattle.keys.specs.Laws.{WellFormed, Step, StepsExact}
+use Rattle.keys.specs.Laws.{Step, StepsExact}
+use Rattle.keys.specs.declared.key_file.KeyAttributes.{KeyAttributes}
 
 pub has-none : (file : List ℕ) (pos n : ℕ) → length file < pos → hasBytes file pos n ≡ false
 unfolding hasBytes
@@ -71,10 +72,23 @@ no-part : (file : List ℕ) (pos n : ℕ) → (¬ (pos + n ≤ length file)) →
 unfolding partAt
 no-part file pos n h = rw (lacks-bytes file pos n h)
 
-material-part : (f : List ℕ) → WellFormed f → partAt f 36 (materialLengthOf f) ≡ materialOf f
-material-part f w =
-    some-part f 36 (materialLengthOf f) (omega (arith, w .whole))
-    ∙ take-all (materialLengthOf f) (drop 36 f) (omega (arith, w .whole, length-drop 36 f))
+number-at : (before rest : List ℕ) (n : ℕ) → n < 2 ^ 32 → u32At (before ++ (leBytes 4 n ++ rest)) (length before) ≡ n
+number-at before rest n h =
+    let l = leBytes 4 n ++ rest in
+    let first = getD-append-seam before (n % 256) (leBytes 3 (n / 256) ++ rest) 0 in
+    rw (first, getD-append-add before l 1 0, getD-append-add before l 2 0, getD-append-add before l 3 0) (le-value 4 n h)
+
+material-part : (a : KeyAttributes) (m : List ℕ) → partAt (formatKeyFile a m) 36 (length m) ≡ m
+unfolding formatKeyFile keyFileHeader
+material-part a m = some-part (formatKeyFile a m) 36 (length m) (omega arith) ∙ take-all (length m) m (omega arith)
 
 pub steps-exact : StepsExact
-steps-exact = record { of-mark = mark-step; of-field = field-step; of-bytes = bytes-step; part = some-part; no-part = no-part; material = material-part }
+steps-exact = record {
+  of-mark = mark-step;
+  of-field = field-step;
+  of-bytes = bytes-step;
+  part = some-part;
+  no-part = no-part;
+  number = number-at;
+  material = material-part;
+}

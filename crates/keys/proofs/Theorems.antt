@@ -1,27 +1,21 @@
 -- Every statement of `specs/Laws`, with its proof.
-use Rattle.keys.specs.Laws.{ParseExact, FormatParses, ParsedIsWritten, ReaderExact, StepsExact, FileWritten, KeyNames, KeyCallsWell, KeyRefusals, FormatGives, LoadExact, SaveExact, SaveLoads}
-use Rattle.keys.proofs.FileLaws.{parse-exact, format-parses, parsed-is-written, reader-exact, file-written}
+use Rattle.keys.specs.Laws.{FileLayout, ParseExact, ReaderExact, StepsExact, KeyNames, KeyCallsWell, KeyRefusals, FormatGives, LoadExact, SaveExact, SaveLoads}
+use Rattle.keys.proofs.FileLaws.{file-layout, parse-exact, reader-exact}
 use Rattle.keys.proofs.Taken.{steps-exact}
 use Rattle.keys.proofs.Names.{key-names}
 use Rattle.keys.proofs.CallLaws.{key-calls-well, key-refusals, format-gives, load-exact, save-exact, save-loads}
 
+pub layout : FileLayout
+layout = file-layout
+
 pub parsing : ParseExact
 parsing = parse-exact
-
-pub written-is-parsed : FormatParses
-written-is-parsed = format-parses
-
-pub parsed-was-written : ParsedIsWritten
-parsed-was-written = parsed-is-written
 
 pub reading : ReaderExact
 reading = reader-exact
 
 pub steps : StepsExact
 steps = steps-exact
-
-pub layout : FileWritten
-layout = file-written
 
 pub names : KeyNames
 names = key-names

@@ -3,7 +3,7 @@ use mathlib.Core.Bool.{Bool, cond, _&&_}
 use mathlib.Core.List.{List, [], _∷_, _++_}
 use Prim.Native.Nat.{ℕ, _+_}
 use lib.Dec.{eqb, leb}
-use lib.ListN.{length, take, drop}
+use lib.ListN.{length, take}
 use Rattle.spec.specs.Bytes.{bytesEq, leBytes, u32At}
 use Rattle.spec.specs.Status.{ok, errInvalidKeyFile}
 use Rattle.keys.specs.declared.key_file.KeyAttributes.{KeyAttributes}
@@ -43,9 +43,6 @@ attributesOf f =
 
 abbrev pub materialLengthOf : List ℕ → ℕ
 materialLengthOf f = u32At f 32
-
-abbrev pub materialOf : List ℕ → List ℕ
-materialOf f = drop headerSize f
 
 -- "Wrong magic, other version, short header, trailing or missing bytes, or more material: 13. Type and policy numbers are carried and not judged."
 unfoldable pub keyFileValid : List ℕ → Bool

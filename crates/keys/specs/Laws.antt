@@ -1,19 +1,18 @@
 -- What holds of key files and of the calls on them, as statements. They are proved in `proofs/`.
 use mathlib.Core.Path.{_≡_}
 use mathlib.Core.Logic.{_↔_}
-use mathlib.Core.Bool.{Bool, true, cond, _&&_, _||_}
-use mathlib.Core.List.{List, [], _∷_, _++_, foldl}
-use Prim.Native.Nat.{ℕ, _+_, _-_, _*_, _^_, _≤_, _<_}
-use lib.Dec.{leb}
-use lib.ListN.{length, take, drop}
-use Rattle.spec.specs.Bytes.{every, u32At}
+use mathlib.Core.Bool.{true}
+use mathlib.Core.List.{List, [], _∷_, _++_}
+use Prim.Native.Nat.{ℕ, _+_, _-_, _/_, _%_, _^_, _≤_, _<_}
+use lib.ListN.{length, getD, take, drop}
+use Rattle.spec.specs.Bytes.{leBytes, u32At}
 use Rattle.spec.specs.Status.{ok}
 use Rattle.spec.specs.Name.{validName, keyName}
 use Rattle.spec.specs.Calls.{Got, bindingOf, storeSet}
 use Rattle.spec.specs.Demands.{WrittenWell, GotWell, Readable, opened, Stores}
 use Rattle.spec.specs.Refusals.{_when_, FirstOf, areaLengths, keyLength, ivLength, areaDamage, Held, setRefusals, roomRefusals, getRefusals}
 use Rattle.spec.specs.Shapes.{AreBytes}
-use Rattle.keys.specs.KeyFile.{mark, formatKeyFile, versionOf, materialLengthOf, materialOf, attributesOf, parseKeyFile}
+use Rattle.keys.specs.KeyFile.{mark, formatKeyFile, parseKeyFile}
 use Rattle.keys.specs.Reader.{markAt, fieldAt, bytesAt, partAt, readHeader}
 use Rattle.keys.specs.declared.fields.Field.{Field}
 use Rattle.keys.specs.Calls.{writeKeyFile, saveKey, loadKey}
@@ -27,39 +26,56 @@ pub record Fits (a : KeyAttributes) : Type 0 where
   pub alg : a .alg < 2 ^ 32
   pub enrollment-alg : a .«enrollment_alg» < 2 ^ 32
 
--- 01's rules for a file, one by one
+-- 01's rules for a file, one by one: the version stands at 8, the material's length at 32
 pub record WellFormed (f : List ℕ) : Type 0 where
   pub header : 36 ≤ length f
   pub marked : take 8 f ≡ mark
-  pub version-0 : versionOf f ≡ 0
-  pub material-short : materialLengthOf f ≤ 444
-  pub whole : length f ≡ 36 + materialLengthOf f
+  pub version-0 : u32At f 8 ≡ 0
+  pub material-short : u32At f 32 ≤ 444
+  pub whole : length f ≡ 36 + u32At f 32
+
+-- a file as it is written
+pub record WrittenFile (f : List ℕ) : Type 0 where
+  pub attributes : KeyAttributes
+  pub material : List ℕ
+  pub fits : Fits attributes
+  pub short : length material ≤ 444
+  pub bytes : f ≡ formatKeyFile attributes material
 
 -- ---- a file, and what it says
 
+-- the bytes of a file in order, of any attributes and material; and one file in numerals
+pub record FileLayout : Type 0 where
+  pub bytes : (a : KeyAttributes) (material : List ℕ) → formatKeyFile a material
+      ≡ 0x50 ∷ 0x53 ∷ 0x41 ∷ 0x00 ∷ 0x4b ∷ 0x45 ∷ 0x59 ∷ 0x00 ∷ 0x00 ∷ 0x00 ∷ 0x00 ∷ 0x00
+      ∷ (leBytes 4 (a .lifetime) ++ (leBytes 4 (a .«key_type») ++ (leBytes 4 (a .usage) ++ (leBytes 4 (a .alg) ++ (leBytes 4 (a .«enrollment_alg»)
+      ++ (leBytes 4 (length material) ++ material))))))
+  pub one : formatKeyFile (record { lifetime = 0x04030201; «key_type» = 0x14131211; usage = 0x24232221; alg = 0x34333231; «enrollment_alg» = 0x44434241 })
+      (0x6d ∷ 0x6e ∷ [])
+      ≡ 0x50 ∷ 0x53 ∷ 0x41 ∷ 0x00 ∷ 0x4b ∷ 0x45 ∷ 0x59 ∷ 0x00 ∷ 0x00 ∷ 0x00 ∷ 0x00 ∷ 0x00 ∷ 0x01 ∷ 0x02 ∷ 0x03 ∷ 0x04 ∷ 0x11 ∷ 0x12 ∷ 0x13 ∷ 0x14
+      ∷ 0x21 ∷ 0x22 ∷ 0x23 ∷ 0x24 ∷ 0x31 ∷ 0x32 ∷ 0x33 ∷ 0x34 ∷ 0x41 ∷ 0x42 ∷ 0x43 ∷ 0x44 ∷ 0x02 ∷ 0x00 ∷ 0x00 ∷ 0x00 ∷ 0x6d ∷ 0x6e ∷ []
+
 pub record ParseExact : Type 0 where
-  pub condition : (f : List ℕ) → (parseKeyFile f .status ≡ ok) ↔ WellFormed f
-  pub attributes : (f : List ℕ) → WellFormed f → parseKeyFile f .attributes ≡ attributesOf f
-  pub material : (f : List ℕ) → WellFormed f → parseKeyFile f .«material_len» ≡ length (materialOf f)
-  -- 13 is the only refusal, and has 0 for every number
-  pub refusal : (f : List ℕ) → (¬ WellFormed f)
-      → parseKeyFile f ≡ record { status = 13; attributes = record { lifetime = 0; «key_type» = 0; usage = 0; alg = 0; «enrollment_alg» = 0 }; «material_len» = 0 }
-
--- a written file gives its attributes and its material back
-pub record FormatParses : Type 0 where
-  pub parsed : (a : KeyAttributes) (material : List ℕ) → Fits a → length material ≤ 444
+  -- bytes are accepted exactly where they are a file as it is written, and nothing else is
+  pub condition : (f : List ℕ) → AreBytes f → (parseKeyFile f .status ≡ ok) ↔ WrittenFile f
+  pub rules : (f : List ℕ) → (parseKeyFile f .status ≡ ok) ↔ WellFormed f
+  -- what was written is given back
+  pub gives : (a : KeyAttributes) (material : List ℕ) → Fits a → length material ≤ 444
       → parseKeyFile (formatKeyFile a material) ≡ record { status = ok; attributes = a; «material_len» = length material }
-  pub material-back : (a : KeyAttributes) (material : List ℕ) → materialOf (formatKeyFile a material) ≡ material
-
--- every accepted file is the writing of what was parsed: nothing else is accepted
-abbrev pub ParsedIsWritten : Type 0
-ParsedIsWritten = (f : List ℕ) → AreBytes f → parseKeyFile f .status ≡ ok → f ≡ formatKeyFile (parseKeyFile f .attributes) (materialOf f)
+  -- 13 is the only refusal, and has 0 for every number
+  pub refusal : (f : List ℕ) → (¬ WellFormed f) → parseKeyFile f
+      ≡ record { status = 13; attributes = record { lifetime = 0; «key_type» = 0; usage = 0; alg = 0; «enrollment_alg» = 0 }; «material_len» = 0 }
 
 -- who reads the header one field after the other comes to place 36 exactly where there is a header, and has then read its fields
 pub record ReaderExact : Type 0 where
   pub condition : (f : List ℕ) → (readHeader f .end ≡ 36) ↔ ((36 ≤ length f) × (take 8 f ≡ mark))
-  pub fields : (f : List ℕ) → readHeader f .end ≡ 36
-      → readHeader f ≡ record { version = versionOf f; attributes = attributesOf f; «material_len» = materialLengthOf f; end = 36 }
+  pub fields : (f : List ℕ) → readHeader f .end ≡ 36 → readHeader f
+      ≡ record {
+        version = u32At f 8;
+        attributes = record { lifetime = u32At f 12; «key_type» = u32At f 16; usage = u32At f 20; alg = u32At f 24; «enrollment_alg» = u32At f 28 };
+        «material_len» = u32At f 32;
+        end = 36;
+      }
 
 -- a step that takes n bytes: done where its fact holds, with its value and the place behind them; else 13, 0, and the place as it was
 pub record Step (pos n value : ℕ) (fact : Type 0) (f : Field) : Type 0 where
@@ -72,36 +88,23 @@ pub record StepsExact : Type 0 where
   pub of-bytes : (file : List ℕ) (pos n : ℕ) → Step pos n 0 (pos + n ≤ length file) (bytesAt file pos n)
   pub part : (file : List ℕ) (pos n : ℕ) → pos + n ≤ length file → partAt file pos n ≡ take n (drop pos file)
   pub no-part : (file : List ℕ) (pos n : ℕ) → (¬ (pos + n ≤ length file)) → partAt file pos n ≡ []
+  -- the number at a place is the one whose four bytes stand there
+  pub number : (before rest : List ℕ) (n : ℕ) → n < 2 ^ 32 → u32At (before ++ (leBytes 4 n ++ rest)) (length before) ≡ n
   -- the material of a file is the part behind its header
-  pub material : (f : List ℕ) → WellFormed f → partAt f 36 (materialLengthOf f) ≡ materialOf f
-
--- one file, written out
-abbrev pub FileWritten : Type 0
-FileWritten =
-    formatKeyFile (record { lifetime = 0x04030201; «key_type» = 0x14131211; usage = 0x24232221; alg = 0x34333231; «enrollment_alg» = 0x44434241 }) (0x6d ∷ 0x6e ∷ [])
-    ≡ 0x50 ∷ 0x53 ∷ 0x41 ∷ 0x00 ∷ 0x4b ∷ 0x45 ∷ 0x59 ∷ 0x00 ∷ 0x00 ∷ 0x00 ∷ 0x00 ∷ 0x00 ∷ 0x01 ∷ 0x02 ∷ 0x03 ∷ 0x04 ∷ 0x11 ∷ 0x12 ∷ 0x13 ∷ 0x14
-    ∷ 0x21 ∷ 0x22 ∷ 0x23 ∷ 0x24 ∷ 0x31 ∷ 0x32 ∷ 0x33 ∷ 0x34 ∷ 0x41 ∷ 0x42 ∷ 0x43 ∷ 0x44 ∷ 0x02 ∷ 0x00 ∷ 0x00 ∷ 0x00 ∷ 0x6d ∷ 0x6e ∷ []
+  pub material : (a : KeyAttributes) (material : List ℕ) → partAt (formatKeyFile a material) 36 (length material) ≡ material
 
 -- ---- the name of a key
 
--- a lower-case hex digit, its value, and the number that digits stand for
-abbrev pub lowerHex : ℕ → Bool
-lowerHex b = (leb 0x30 b && leb b 0x39) || (leb 0x61 b && leb b 0x66)
-
-abbrev pub digitValue : ℕ → ℕ
-digitValue b = cond (leb b 0x39) (b - 0x30) (b - 0x57)
-
-abbrev pub numberOf : List ℕ → ℕ
-numberOf digits = foldl (λ (v b : ℕ). 16 * v + digitValue b) 0 digits
-
 pub record KeyNames : Type 0 where
-  pub valid : (id : ℕ) → 1 ≤ id → id ≤ 0xfffeffff → validName (keyName id) ≡ true
-  pub sixteen : (id : ℕ) → 1 ≤ id → id ≤ 0xfffeffff → length (keyName id) ≡ 16
-  pub lower-case : (id : ℕ) → every lowerHex (keyName id) ≡ true
-  pub number : (id : ℕ) → 1 ≤ id → id ≤ 0xfffeffff → numberOf (keyName id) ≡ id
   pub none-low : keyName 0 ≡ []
   pub none-high : (id : ℕ) → 0xfffeffff < id → keyName id ≡ []
-  -- no two keys have one name
+  pub sixteen : (id : ℕ) → 1 ≤ id → id ≤ 0xfffeffff → length (keyName id) ≡ 16
+  -- the highest first, each one of "0123456789abcdef"
+  pub digits : (id i : ℕ) → 1 ≤ id → id ≤ 0xfffeffff → i < 16
+      → getD (keyName id) i 0
+      ≡ getD (0x30 ∷ 0x31 ∷ 0x32 ∷ 0x33 ∷ 0x34 ∷ 0x35 ∷ 0x36 ∷ 0x37 ∷ 0x38 ∷ 0x39 ∷ 0x61 ∷ 0x62 ∷ 0x63 ∷ 0x64 ∷ 0x65 ∷ 0x66 ∷ []) (id / 16 ^ (15 - i) % 16) 0
+  -- so it is a good name, and no two keys have one name
+  pub valid : (id : ℕ) → 1 ≤ id → id ≤ 0xfffeffff → validName (keyName id) ≡ true
   pub distinct : (i j : ℕ) → 1 ≤ i → i ≤ 0xfffeffff → 1 ≤ j → j ≤ 0xfffeffff → keyName i ≡ keyName j → i ≡ j
 
 -- ---- the calls

@@ -10,7 +10,6 @@ use Rattle.spec.specs.Status.{ok, errInvalidKeyFile}
 use Rattle.keys.specs.KeyFile.{mark}
 use Rattle.keys.specs.declared.fields.Field.{Field}
 use Rattle.keys.specs.declared.parse.Header.{Header}
-use Rattle.keys.specs.declared.reader.Taken.{Taken}
 
 -- n bytes are left from a place on
 unfoldable pub hasBytes : List ℕ → ℕ → ℕ → Bool
@@ -24,10 +23,6 @@ refusedAt pos = record { status = errInvalidKeyFile; value = 0; pos = pos }
 unfoldable pub takenAt : Bool → ℕ → ℕ → ℕ → Field
 takenAt true pos n value = record { status = ok; value = value; pos = pos + n }
 takenAt false pos n value = refusedAt pos
-
--- what a step of the reader answers: the place is the reader's
-abbrev pub takenOf : Field → Taken
-takenOf f = record { status = f .status; value = f .value }
 
 -- the mark, which has no value
 unfoldable pub markAt : List ℕ → ℕ → Field

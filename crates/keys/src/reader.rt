@@ -2,7 +2,7 @@
 // struct, so each is thin and proved by hand; `fields` does the work.
 use crate::fields;
 ghost use mathlib.Core.Path.{_≡_};
-ghost use Rattle.keys.specs.Reader.{takenOf, markAt, fieldAt, bytesAt, partAt};
+ghost use Rattle.keys.specs.Reader.{markAt, fieldAt, bytesAt, partAt};
 
 pub struct KeyFileReader<'a> {
     pub file: &'a [u8],
@@ -29,7 +29,7 @@ pub struct KeyMaterial<'a> {
 
 // On a refusal the field's place is the one given, so the reader stays as it was.
 pub fn take_mark<'s, 'a>(r: &'s mut KeyFileReader<'a>) -> Taken
-    ensures { λ t. ⌜ (t ≡ takenOf (markAt (now (now (r .entry) .file)) (now (r .entry) .pos))) × (now (r .exit) .file ≡ now (r .entry) .file) × (now (r .exit) .pos ≡ markAt (now (now (r .entry) .file)) (now (r .entry) .pos) .pos) ⌝ }
+    ensures { λ t. ⌜ (t ≡ record { status = markAt (now (now (r .entry) .file)) (now (r .entry) .pos) .status; value = markAt (now (now (r .entry) .file)) (now (r .entry) .pos) .value }) × (now (r .exit) .file ≡ now (r .entry) .file) × (now (r .exit) .pos ≡ markAt (now (now (r .entry) .file)) (now (r .entry) .pos) .pos) ⌝ }
 {
     let f = fields::mark_at(r.file, r.pos);
     r.pos = f.pos;
@@ -40,7 +40,7 @@ pub fn take_mark<'s, 'a>(r: &'s mut KeyFileReader<'a>) -> Taken
 }
 
 pub fn take_field<'s, 'a>(r: &'s mut KeyFileReader<'a>) -> Taken
-    ensures { λ t. ⌜ (t ≡ takenOf (fieldAt (now (now (r .entry) .file)) (now (r .entry) .pos))) × (now (r .exit) .file ≡ now (r .entry) .file) × (now (r .exit) .pos ≡ fieldAt (now (now (r .entry) .file)) (now (r .entry) .pos) .pos) ⌝ }
+    ensures { λ t. ⌜ (t ≡ record { status = fieldAt (now (now (r .entry) .file)) (now (r .entry) .pos) .status; value = fieldAt (now (now (r .entry) .file)) (now (r .entry) .pos) .value }) × (now (r .exit) .file ≡ now (r .entry) .file) × (now (r .exit) .pos ≡ fieldAt (now (now (r .entry) .file)) (now (r .entry) .pos) .pos) ⌝ }
 {
     let f = fields::field_at(r.file, r.pos);
     r.pos = f.pos;

@@ -39,12 +39,12 @@ use denote.Triple.Table.{entered, cited}
 use denote.Triple.Walked.{says, Stays, stay-none-slice, walkOf, goes-none-slice, Walks, ends-at, walked, walk-meets}
 use denote.Exit.{yes}
 use denote.Triple.Clauses.{ensured, lasts}
-use Rattle.keys.specs.Reader.{takenOf, markAt, fieldAt, readHeader}
+use Rattle.keys.specs.Reader.{markAt, fieldAt, readHeader}
 use Rattle.keys.specs.declared.fields.Field.{Field}
 use Rattle.keys.specs.declared.key_file.KeyAttributes.{KeyAttributes}
 use Rattle.keys.specs.declared.parse.Header.{Header}
 use Rattle.keys.specs.declared.reader.KeyFileReader.{KeyFileReader}
-use Rattle.keys.proofs.ReaderWalk.{typed}
+use Rattle.keys.proofs.ReaderWalk.{takenOf, typed}
 use Rattle.keys.proofs.ReaderStep.{TakeSpec, Typed, steps}
 use Rattle.keys.proofs.reader.KeyFileReader as T
 use Rattle.keys.proofs.reader.KeyFileReader.Laws as T′

@@ -6,7 +6,8 @@ use contract.Monad.{factI}
 use contract.Running.{givenOf, tables, tablesOf}
 use denote.Triple.Spec.{tripleOf}
 use denote.Triple.Table.{entered, cited}
-use Rattle.keys.specs.Reader.{takenOf, fieldAt}
+use Rattle.keys.specs.Reader.{fieldAt}
+use Rattle.keys.proofs.ReaderWalk.{takenOf}
 use Rattle.keys.proofs.ReaderTake.{AtSpec, take-meets}
 use Rattle.keys.proofs.fields.field_at.Symbol as callee-def
 use Rattle.keys.proofs.fields.field_at.Symbol.{name as #keys·fields·field-at}

@@ -6,7 +6,8 @@ use contract.Monad.{factI}
 use contract.Running.{givenOf, tables, tablesOf}
 use denote.Triple.Spec.{tripleOf}
 use denote.Triple.Table.{entered, cited}
-use Rattle.keys.specs.Reader.{takenOf, markAt}
+use Rattle.keys.specs.Reader.{markAt}
+use Rattle.keys.proofs.ReaderWalk.{takenOf}
 use Rattle.keys.proofs.ReaderTake.{AtSpec, take-meets}
 use Rattle.keys.proofs.fields.mark_at.Symbol as callee-def
 use Rattle.keys.proofs.fields.mark_at.Symbol.{name as #keys·fields·mark-at}
