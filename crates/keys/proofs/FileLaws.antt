@@ -19,6 +19,10 @@ use Rattle.keys.proofs.Header.{header-there, header-long, header-marked
 use Rattle.keys.proofs.Written.{file-length}
 use Rattle.keys.proofs.Loaded.{file-valid}
 
+pub file-layout : FileLayout
+unfolding formatKeyFile keyFileHeader
+file-layout = record { bytes = λ a m. refl; one = refl }
+
 pub accepted-formed : (f : List ℕ) → parseKeyFile f .status ≡ ok → WellFormed f
 accepted-formed f h = well-formed f (file-valid f h)
 
@@ -92,7 +96,7 @@ module _ (f : List ℕ) (b : AreBytes f) (w : WellFormed f) where
   formed-written = record {
     attributes = attributesOf f;
     material = drop 36 f;
-    fits = record { lifetime = small 12; key-type = small 16; usage = small 20; alg = small 24; enrollment-alg = small 28 };
+    fits = record { lifetime = small _; key-type = small _; usage = small _; alg = small _; enrollment-alg = small _ };
     short = omega (arith, material-long, w .material-short);
     bytes = split-at 36 (w .header) ∙ ap (λ (h : List ℕ). h ++ drop 36 f) header;
   }
@@ -116,7 +120,3 @@ reader-exact = record {
   condition = λ f. (λ e. (header-long f e, header-marked f e), λ h. ap (λ (x : Header). x .end) (header-there f (h .0) (h .1)));
   fields = header-read;
 }
-
-pub file-layout : FileLayout
-unfolding formatKeyFile keyFileHeader
-file-layout = record { bytes = λ a m. refl; one = refl }
