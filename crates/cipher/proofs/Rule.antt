@@ -2,7 +2,6 @@
 use mathlib.Core.Path.{_≡_, refl, ap, _∙_}
 use Prim.Native.Nat.{ℕ, zero, suc, _+_, _*_, _/_, _%_, _^_, _<_}
 use native.Mathlib.Omega.{arith}
-use lib.ListN.{length, getD}
 use Rattle.cipher.specs.Sbox.{inverse, bit, affineBit, affine, subByte, sbox, tableFrom}
 use Rattle.cipher.specs.Laws.{SboxLaw}
 use Rattle.cipher.proofs.Words.{sbox-at}

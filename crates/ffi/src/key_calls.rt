@@ -4,9 +4,9 @@ use keys::key_file::KeyAttributes;
 use keys::parse;
 use keys::persist;
 ghost use mathlib.Core.Path.{_≡_};
+ghost use mathlib.Core.List.{[], _∷_};
 ghost use Rattle.keys.specs.Calls as Keys;
 ghost use Rattle.keys.specs.KeyFile.{parseKeyFile};
-ghost use Rattle.ffi.specs.Answers.{written, got};
 
 #[no_mangle]
 pub extern "C" fn securestore_format_key_file(
@@ -19,7 +19,7 @@ pub extern "C" fn securestore_format_key_file(
     key_buf: &mut [u8],
     count: &mut usize,
 ) -> u32
-    ensures { λ r. ⌜ got r (now (count .exit)) (now («key_buf» .exit)) ≡ Keys.writeKeyFile (record { lifetime = lifetime; «key_type» = «key_type»; usage = usage; alg = alg; «enrollment_alg» = «enrollment_alg» }) (now (material .entry)) (now («key_buf» .entry)) ⌝ }
+    ensures { λ r. ⌜ record { status = r; numbers = now (count .exit) ∷ []; output = now («key_buf» .exit) } ≡ Keys.writeKeyFile (record { lifetime = lifetime; «key_type» = «key_type»; usage = usage; alg = alg; «enrollment_alg» = «enrollment_alg» }) (now (material .entry)) (now («key_buf» .entry)) ⌝ }
 {
     let attributes = KeyAttributes {
         lifetime,
@@ -48,7 +48,7 @@ pub extern "C" fn securestore_save_key(
     flags: u32,
     iv: &[u8],
 ) -> u32
-    ensures { λ r. ⌜ written r (now (kv .exit)) (now (rbp .exit)) ≡ Keys.saveKey (now (kv .entry)) (now (rbp .entry)) (now («device_key» .entry)) «key_id» (record { lifetime = lifetime; «key_type» = «key_type»; usage = usage; alg = alg; «enrollment_alg» = «enrollment_alg» }) (now (material .entry)) flags (now (iv .entry)) ⌝ }
+    ensures { λ r. ⌜ record { answer = record { status = r; numbers = []; output = [] }; after = record { kv = now (kv .exit); rbp = now (rbp .exit) } } ≡ Keys.saveKey (now (kv .entry)) (now (rbp .entry)) (now («device_key» .entry)) «key_id» (record { lifetime = lifetime; «key_type» = «key_type»; usage = usage; alg = alg; «enrollment_alg» = «enrollment_alg» }) (now (material .entry)) flags (now (iv .entry)) ⌝ }
 {
     let attributes = KeyAttributes {
         lifetime,
@@ -69,7 +69,7 @@ pub extern "C" fn securestore_load_key(
     key_buf: &mut [u8],
     count: &mut usize,
 ) -> u32
-    ensures { λ r. ⌜ got r (now (count .exit)) (now («key_buf» .exit)) ≡ Keys.loadKey (now (kv .entry)) (now (rbp .entry)) (now («device_key» .entry)) «key_id» (now («key_buf» .entry)) ⌝ }
+    ensures { λ r. ⌜ record { status = r; numbers = now (count .exit) ∷ []; output = now («key_buf» .exit) } ≡ Keys.loadKey (now (kv .entry)) (now (rbp .entry)) (now («device_key» .entry)) «key_id» (now («key_buf» .entry)) ⌝ }
 {
     let answer = persist::load_persistent_key(kv, rbp, device_key, key_id, key_buf);
     *count = answer.count;

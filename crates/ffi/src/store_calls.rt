@@ -5,8 +5,8 @@ use store::remove;
 use store::reset;
 use store::set;
 ghost use mathlib.Core.Path.{_≡_};
+ghost use mathlib.Core.List.{[], _∷_};
 ghost use Rattle.spec.specs.Calls as Calls;
-ghost use Rattle.ffi.specs.Answers.{written, got, informed, iterated};
 
 #[no_mangle]
 pub extern "C" fn securestore_set(
@@ -18,7 +18,7 @@ pub extern "C" fn securestore_set(
     iv: &[u8],
     data: &[u8],
 ) -> u32
-    ensures { λ r. ⌜ written r (now (kv .exit)) (now (rbp .exit)) ≡ Calls.storeSet (now (kv .entry)) (now (rbp .entry)) (now («device_key» .entry)) (now (name .entry)) flags (now (iv .entry)) (now («data» .entry)) ⌝ }
+    ensures { λ r. ⌜ record { answer = record { status = r; numbers = []; output = [] }; after = record { kv = now (kv .exit); rbp = now (rbp .exit) } } ≡ Calls.storeSet (now (kv .entry)) (now (rbp .entry)) (now («device_key» .entry)) (now (name .entry)) flags (now (iv .entry)) (now («data» .entry)) ⌝ }
 {
     set::set(kv, rbp, device_key, name, flags, iv, data)
 }
@@ -33,7 +33,7 @@ pub extern "C" fn securestore_get(
     output: &mut [u8],
     count: &mut usize,
 ) -> u32
-    ensures { λ r. ⌜ got r (now (count .exit)) (now (output .exit)) ≡ Calls.storeGet (now (kv .entry)) (now (rbp .entry)) (now («device_key» .entry)) (now (name .entry)) offset (now (output .entry)) ⌝ }
+    ensures { λ r. ⌜ record { status = r; numbers = now (count .exit) ∷ []; output = now (output .exit) } ≡ Calls.storeGet (now (kv .entry)) (now (rbp .entry)) (now («device_key» .entry)) (now (name .entry)) offset (now (output .entry)) .answer ⌝ }
 {
     let answer = get::get(kv, rbp, device_key, name, offset, output);
     *count = answer.count;
@@ -49,7 +49,7 @@ pub extern "C" fn securestore_get_info(
     data_size: &mut u32,
     flags: &mut u32,
 ) -> u32
-    ensures { λ r. ⌜ informed r (now («data_size» .exit)) (now (flags .exit)) ≡ Calls.storeGetInfo (now (kv .entry)) (now (rbp .entry)) (now («device_key» .entry)) (now (name .entry)) ⌝ }
+    ensures { λ r. ⌜ record { status = r; numbers = now («data_size» .exit) ∷ now (flags .exit) ∷ []; output = [] } ≡ Calls.storeGetInfo (now (kv .entry)) (now (rbp .entry)) (now («device_key» .entry)) (now (name .entry)) .answer ⌝ }
 {
     let answer = get::get_info(kv, rbp, device_key, name);
     *data_size = answer.data_size;
@@ -59,14 +59,14 @@ pub extern "C" fn securestore_get_info(
 
 #[no_mangle]
 pub extern "C" fn securestore_remove(kv: &mut [u8], rbp: &mut [u8], name: &[u8]) -> u32
-    ensures { λ r. ⌜ written r (now (kv .exit)) (now (rbp .exit)) ≡ Calls.storeRemove (now (kv .entry)) (now (rbp .entry)) (now (name .entry)) ⌝ }
+    ensures { λ r. ⌜ record { answer = record { status = r; numbers = []; output = [] }; after = record { kv = now (kv .exit); rbp = now (rbp .exit) } } ≡ Calls.storeRemove (now (kv .entry)) (now (rbp .entry)) (now (name .entry)) ⌝ }
 {
     remove::remove(kv, rbp, name)
 }
 
 #[no_mangle]
 pub extern "C" fn securestore_reset(kv: &mut [u8], rbp: &mut [u8]) -> u32
-    ensures { λ r. ⌜ written r (now (kv .exit)) (now (rbp .exit)) ≡ Calls.storeReset (now (kv .entry)) (now (rbp .entry)) ⌝ }
+    ensures { λ r. ⌜ record { answer = record { status = r; numbers = []; output = [] }; after = record { kv = now (kv .exit); rbp = now (rbp .exit) } } ≡ Calls.storeReset (now (kv .entry)) (now (rbp .entry)) ⌝ }
 {
     reset::reset(kv, rbp)
 }
@@ -81,7 +81,7 @@ pub extern "C" fn securestore_iterator_next(
     name_len: &mut usize,
     next_slot: &mut usize,
 ) -> u32
-    ensures { λ r. ⌜ iterated r (now («name_len» .exit)) (now («next_slot» .exit)) (now («name_buf» .exit)) ≡ Calls.storeIteratorNext (now (kv .entry)) (now (rbp .entry)) (now (prefix .entry)) «start_slot» (now («name_buf» .entry)) ⌝ }
+    ensures { λ r. ⌜ record { status = r; numbers = now («name_len» .exit) ∷ now («next_slot» .exit) ∷ []; output = now («name_buf» .exit) } ≡ Calls.storeIteratorNext (now (kv .entry)) (now (rbp .entry)) (now (prefix .entry)) «start_slot» (now («name_buf» .entry)) .answer ⌝ }
 {
     let answer = iterate::iterator_next(kv, rbp, prefix, start_slot, name_buf);
     *name_len = answer.name_len;

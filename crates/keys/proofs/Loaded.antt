@@ -6,41 +6,41 @@ use mathlib.Core.List.{List, _++_}
 use Prim.Native.Nat.{ℕ, _+_, _-_, _≤_, _<_}
 use native.Mathlib.Omega.{arith}
 use borrow.Author.Tests.{le-leb, lt-leb, ne-eqb}
-use lib.ListN.{length, take, drop, length-take}
-use Rattle.spec.specs.Status.{ok, isOk, refuseIf, onOk}
+use lib.ListN.{length, getD, take, drop, length-take}
+use Rattle.spec.specs.Status.{ok, isOk, refuseIf, firstOf, Answer, onOk}
 use Rattle.spec.specs.Bytes.{zeros}
 use Rattle.spec.specs.Name.{keyName}
-use Rattle.spec.specs.Binding.{readCount}
-use Rattle.spec.specs.Calls.{Got, getStatus, storeGet}
+use Rattle.spec.specs.Decisions.{readCount}
+use Rattle.spec.specs.Calls.{storeGet}
 use Rattle.spec.proofs.Split.{split}
 use Rattle.keys.specs.KeyFile.{keyFileValid, parseKeyFile}
-use Rattle.keys.specs.Calls.{keyRecord, fileOf, loadStatus}
+use Rattle.keys.specs.Calls.{keyRecord, fileOf, loadTests}
 
 module _ (kv rbp key : List ℕ) (id : ℕ) (buf : List ℕ) where
-  pub short-buffer : length buf < 480 → 1 ≡ loadStatus kv rbp key id buf
-  unfolding loadStatus refuseIf
+  pub short-buffer : length buf < 480 → 1 ≡ firstOf (loadTests kv rbp key id buf)
+  unfolding loadTests refuseIf
   short-buffer h = rw (lt-leb 480 (length buf) h)
 
-  module _ (l : 480 ≤ length buf) (g : Got) (e : g ≡ keyRecord kv rbp key id) where
-    pub not-got : g .status ≢ ok → g .status ≡ loadStatus kv rbp key id buf
-    unfolding loadStatus refuseIf
+  module _ (l : 480 ≤ length buf) (g : Answer) (e : g ≡ keyRecord kv rbp key id) where
+    pub not-got : g .status ≢ ok → g .status ≡ firstOf (loadTests kv rbp key id buf)
+    unfolding loadTests refuseIf
     not-got n = rw (le-leb 480 (length buf) l, sym e, ne-eqb (g .status) ok n)
 
-    pub not-a-file : g .status ≡ ok → keyFileValid (fileOf g) ≡ false → 13 ≡ loadStatus kv rbp key id buf
-    unfolding loadStatus refuseIf
+    pub not-a-file : g .status ≡ ok → keyFileValid (fileOf g) ≡ false → 13 ≡ firstOf (loadTests kv rbp key id buf)
+    unfolding loadTests refuseIf
     not-a-file s v = rw (le-leb 480 (length buf) l, sym e, s, v)
 
-    pub loads : g .status ≡ ok → keyFileValid (fileOf g) ≡ true → loadStatus kv rbp key id buf ≡ ok
-    unfolding loadStatus refuseIf
+    pub loads : g .status ≡ ok → keyFileValid (fileOf g) ≡ true → firstOf (loadTests kv rbp key id buf) ≡ ok
+    unfolding loadTests refuseIf
     loads s v = rw (le-leb 480 (length buf) l, sym e, s, v)
 
-count-within : (kv rbp key name : List ℕ) (offset : ℕ) (output : List ℕ) → storeGet kv rbp key name offset output .count ≤ length output
+count-within : (kv rbp key name : List ℕ) (offset : ℕ) (output : List ℕ) → getD (storeGet kv rbp key name offset output .answer .numbers) 0 0 ≤ length output
 unfolding storeGet onOk readCount
-count-within kv rbp key name offset output = split (isOk (getStatus kv rbp key name offset)) (λ e. rw e (omega arith)) (λ e. rw e (omega arith))
+count-within kv rbp key name offset output = split (isOk (storeGet kv rbp key name offset output .answer .status)) (λ e. rw e (omega arith)) (λ e. rw e (omega arith))
 
-pub count-fits : (kv rbp key : List ℕ) (id : ℕ) (g : Got) → g ≡ keyRecord kv rbp key id → g .count ≤ 480
+pub count-fits : (kv rbp key : List ℕ) (id : ℕ) (g : Answer) → g ≡ keyRecord kv rbp key id → getD (g .numbers) 0 0 ≤ 480
 unfolding keyRecord
-count-fits kv rbp key id g e = omega (arith, ap (λ (x : Got). x .count) e, count-within kv rbp key (keyName id) 0 (zeros 480))
+count-fits kv rbp key id g e = omega (arith, ap (λ (x : Answer). getD (x .numbers) 0 0) e, count-within kv rbp key (keyName id) 0 (zeros 480))
 
 -- the parser's verdict
 pub file-valid : (f : List ℕ) → parseKeyFile f .status ≡ ok → keyFileValid f ≡ true

@@ -1,19 +1,18 @@
 -- A file written field by field. Assumes nothing.
 use mathlib.Core.Path.{_≡_, ap, _∙_}
 use mathlib.Core.Logic.{_≢_}
-use mathlib.Core.List.{List, _++_}
+use mathlib.Core.List.{List, [], _∷_, _++_}
 use Prim.Native.Nat.{ℕ, _+_, _-_, _≤_, _<_}
 use native.Mathlib.Omega.{arith}
 use borrow.Author.Tests.{le-leb, lt-leb}
 use lib.ListN.{length, take, drop, length-append}
 use lib.Seq.{take-append-seam}
-use Rattle.spec.specs.Status.{ok, refuseIf, onOk}
-use Rattle.spec.specs.Calls.{Got}
+use Rattle.spec.specs.Status.{ok, refuseIf, firstOf, onOk}
 use Rattle.spec.proofs.Status.{on-refused}
 use Rattle.records.specs.Parts.{putAt}
 use Rattle.records.proofs.Place.{put-next}
 use Rattle.keys.specs.KeyFile.{keyFileHeader, formatKeyFile}
-use Rattle.keys.specs.Calls.{keyFileGot, formatStatus}
+use Rattle.keys.specs.Calls.{keyFileAnswer, formatTests}
 use Rattle.keys.specs.declared.key_file.KeyAttributes.{KeyAttributes}
 
 -- the next field, put behind those that are there
@@ -26,29 +25,29 @@ file-length a m = length-append (keyFileHeader a (length m)) m
 
 -- ---- what is left in a key buffer
 
-pub got-refused : (s t : ℕ) (file buf : List ℕ) → s ≡ t → s ≢ ok → _≡_ {A = Got} (record { status = s; count = 0; output = buf }) (keyFileGot t file buf)
-unfolding keyFileGot
-got-refused s t file buf e h =
+pub answer-refused : (s t : ℕ) (file buf : List ℕ) → s ≡ t → s ≢ ok → record { status = s; numbers = 0 ∷ []; output = buf } ≡ keyFileAnswer t file buf
+unfolding keyFileAnswer
+answer-refused s t file buf e h =
     let n : t ≢ ok = λ k. h (e ∙ k) in
-    rw (e, on-refused t (length file) 0 n, on-refused t (file ++ drop (length file) buf) buf n)
+    rw (e, on-refused t (length file ∷ []) (0 ∷ []) n, on-refused t (file ++ drop (length file) buf) buf n)
 
-pub got-done : (t n : ℕ) (file buf out : List ℕ) → t ≡ ok → n ≡ length file → out ≡ file ++ drop (length file) buf
-    → _≡_ {A = Got} (record { status = ok; count = n; output = out }) (keyFileGot t file buf)
-unfolding keyFileGot onOk
-got-done t n file buf out e h o = rw (e, h, o)
+pub answer-done : (t n : ℕ) (file buf out : List ℕ) → t ≡ ok → n ≡ length file → out ≡ file ++ drop (length file) buf
+    → record { status = ok; numbers = n ∷ []; output = out } ≡ keyFileAnswer t file buf
+unfolding keyFileAnswer onOk
+answer-done t n file buf out e h o = rw (e, h, o)
 
 -- ---- writing a file
 
-pub short-buffer : (m buf : List ℕ) → length buf < 480 → 1 ≡ formatStatus m buf
-unfolding formatStatus refuseIf
+pub short-buffer : (m buf : List ℕ) → length buf < 480 → 1 ≡ firstOf (formatTests m buf)
+unfolding formatTests refuseIf
 short-buffer m buf h = rw (lt-leb 480 (length buf) h)
 
-pub long-material : (m buf : List ℕ) → 480 ≤ length buf → 444 < length m → 13 ≡ formatStatus m buf
-unfolding formatStatus refuseIf
+pub long-material : (m buf : List ℕ) → 480 ≤ length buf → 444 < length m → 13 ≡ firstOf (formatTests m buf)
+unfolding formatTests refuseIf
 long-material m buf h k = rw (le-leb 480 (length buf) h, lt-leb (length m) 444 k)
 
-pub writes : (m buf : List ℕ) → 480 ≤ length buf → length m ≤ 444 → formatStatus m buf ≡ ok
-unfolding formatStatus refuseIf
+pub writes : (m buf : List ℕ) → 480 ≤ length buf → length m ≤ 444 → firstOf (formatTests m buf) ≡ ok
+unfolding formatTests refuseIf
 writes m buf h k = rw (le-leb 480 (length buf) h, le-leb (length m) 444 k)
 
 -- the file's part of the buffer that it was written to

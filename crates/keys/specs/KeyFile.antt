@@ -1,11 +1,13 @@
 -- 01, "Key files": the later layout of 004, as a function from attributes and material to bytes, and back.
+--   mark, keyFileHeader, formatKeyFile   a file as it is written
+--   keyFileValid, parseKeyFile           which bytes are a file, and what it says
 use mathlib.Core.Bool.{Bool, cond, _&&_}
 use mathlib.Core.List.{List, [], _∷_, _++_}
 use Prim.Native.Nat.{ℕ, _+_}
 use lib.Dec.{eqb, leb}
 use lib.ListN.{length, take}
 use Rattle.spec.specs.Bytes.{bytesEq, leBytes, u32At}
-use Rattle.spec.specs.Status.{ok, errInvalidKeyFile}
+use Rattle.spec.specs.Status.{ok}
 use Rattle.keys.specs.declared.key_file.KeyAttributes.{KeyAttributes}
 use Rattle.keys.specs.declared.key_file.KeyFile.{KeyFile}
 
@@ -55,7 +57,7 @@ abbrev pub noAttributes : KeyAttributes
 noAttributes = record { lifetime = 0; «key_type» = 0; usage = 0; alg = 0; «enrollment_alg» = 0 }
 
 abbrev pub refusedFile : KeyFile
-refusedFile = record { status = errInvalidKeyFile; attributes = noAttributes; «material_len» = 0 }
+refusedFile = record { status = 13; attributes = noAttributes; «material_len» = 0 }
 
 -- the attributes and how many bytes of material stand behind the header
 unfoldable pub parseKeyFile : List ℕ → KeyFile

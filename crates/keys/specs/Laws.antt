@@ -1,16 +1,21 @@
 -- What holds of key files and of the calls on them, as statements. They are proved in `proofs/`.
+--   FileLayout, ParseExact                                    a file's bytes; which are accepted, and what is read
+--   ReaderExact, StepsExact                                   the reader, step by step
+--   KeyNames                                                  the name of a key, digit by digit
+--   KeyCallsWell, KeyRefusals                                 demand 1; which number is given
+--   FormatGives, LoadReady, LoadExact, SaveExact, SaveLoads   what a done call gives, and when it is done
 use mathlib.Core.Path.{_≡_}
-use mathlib.Core.Logic.{_↔_}
+use mathlib.Core.Logic.{_≢_, _↔_}
 use mathlib.Core.Bool.{true}
 use mathlib.Core.List.{List, [], _∷_, _++_}
 use Prim.Native.Nat.{ℕ, _+_, _-_, _/_, _%_, _^_, _≤_, _<_}
-use lib.ListN.{length, getD, take, drop}
+use lib.ListN.{length, getD, take, drop, replicate}
 use Rattle.spec.specs.Bytes.{leBytes, u32At}
-use Rattle.spec.specs.Status.{ok}
+use Rattle.spec.specs.Status.{ok, Answer}
 use Rattle.spec.specs.Name.{validName, keyName}
-use Rattle.spec.specs.Calls.{Got, bindingOf, storeSet}
-use Rattle.spec.specs.Demands.{WrittenWell, GotWell, Readable, opened, Stores}
-use Rattle.spec.specs.Refusals.{_when_, FirstOf, areaLengths, keyLength, ivLength, areaDamage, Held, setRefusals, roomRefusals, getRefusals}
+use Rattle.spec.specs.Calls.{Areas, areas, storeSet, storeGet}
+use Rattle.spec.specs.Demand1.{Well}
+use Rattle.spec.specs.Demand2.{Readable, opened, Stores}
 use Rattle.spec.specs.Shapes.{AreBytes}
 use Rattle.keys.specs.KeyFile.{mark, formatKeyFile, parseKeyFile}
 use Rattle.keys.specs.Reader.{markAt, fieldAt, bytesAt, partAt, readHeader}
@@ -109,34 +114,33 @@ pub record KeyNames : Type 0 where
 
 -- ---- the calls
 
--- demand 1: a status of the table; a refusal gives 0 and changes nothing lent
+-- demand 1: a status of the table; a refusal gives 0 and changes nothing lent. Writing is lent neither card nor chip, loading only reads them.
 pub record KeyCallsWell : Type 0 where
-  pub of-format : (a : KeyAttributes) (material buf : List ℕ) → GotWell buf (writeKeyFile a material buf)
+  pub of-format : (s : Areas) (a : KeyAttributes) (material buf : List ℕ) → Well 1 buf s (record { answer = writeKeyFile a material buf; after = s })
   pub of-save : (kv rbp key : List ℕ) (id : ℕ) (a : KeyAttributes) (material : List ℕ) (flags : ℕ) (iv : List ℕ)
-      → WrittenWell kv rbp (saveKey kv rbp key id a material flags iv)
-  pub of-load : (kv rbp key : List ℕ) (id : ℕ) (buf : List ℕ) → GotWell buf (loadKey kv rbp key id buf)
+      → Well 0 [] (areas kv rbp) (saveKey kv rbp key id a material flags iv)
+  pub of-load : (kv rbp key : List ℕ) (id : ℕ) (buf : List ℕ) → Well 1 buf (areas kv rbp) (record { answer = loadKey kv rbp key id buf; after = areas kv rbp })
 
--- every number is given when its test is the first to fail
-pub record KeyRefusals : Type 1 where
-  pub of-format : (a : KeyAttributes) (material buf : List ℕ)
-      → FirstOf ((1 when length buf < 480) ∷ (13 when 444 < length material) ∷ []) (writeKeyFile a material buf .status)
-  pub of-save : (kv rbp key : List ℕ) (id : ℕ) (a : KeyAttributes) (material : List ℕ) (flags : ℕ) (iv : List ℕ)
-      → FirstOf (
-      (13 when 444 < length material)
-      ∷ (areaLengths kv rbp ++ keyLength key ++ ivLength iv ++ areaDamage kv rbp
-      ++ setRefusals (keyName id) flags (formatKeyFile a material) (bindingOf kv rbp (keyName id)) ++ roomRefusals kv rbp flags (bindingOf kv rbp (keyName id)))
-      ) (saveKey kv rbp key id a material flags iv .status)
-  pub of-load : (kv rbp key : List ℕ) (id : ℕ) (buf : List ℕ)
-      → FirstOf (
-      (1 when length buf < 480)
-      ∷ (areaLengths kv rbp ++ keyLength key ++ areaDamage kv rbp ++ getRefusals key (keyName id) 0 (bindingOf kv rbp (keyName id))
-      ++ ((13 when Held (bindingOf kv rbp (keyName id) .stored) (λ r. ¬ WellFormed (opened key (keyName id) r))) ∷ []))
-      ) (loadKey kv rbp key id buf .status)
+-- "Writing: 1, then 13"; "Keeping: 13 for the material, then as set" (SaveExact); "Loading: as get, then 13", with 1 for the key buffer
+pub record KeyRefusals : Type 0 where
+  pub format-length : (a : KeyAttributes) (material buf : List ℕ) → length buf < 480 → writeKeyFile a material buf .status ≡ 1
+  pub format-material : (a : KeyAttributes) (material buf : List ℕ) → 480 ≤ length buf → 444 < length material → writeKeyFile a material buf .status ≡ 13
+  pub save-material : (kv rbp key : List ℕ) (id : ℕ) (a : KeyAttributes) (material : List ℕ) (flags : ℕ) (iv : List ℕ) → 444 < length material
+      → saveKey kv rbp key id a material flags iv ≡ record { answer = record { status = 13; numbers = []; output = [] }; after = areas kv rbp }
+  pub load-length : (kv rbp key : List ℕ) (id : ℕ) (buf : List ℕ) → length buf < 480 → loadKey kv rbp key id buf .status ≡ 1
+  pub load-get : (kv rbp key : List ℕ) (id : ℕ) (buf : List ℕ) → 480 ≤ length buf
+      → let status = storeGet kv rbp key (keyName id) 0 (replicate 480 0) .answer .status in status ≢ 0 → loadKey kv rbp key id buf .status ≡ status
+  pub load-file : (kv rbp key : List ℕ) (id : ℕ) (buf : List ℕ) → 480 ≤ length buf → (h : Readable kv rbp key (keyName id) 0)
+      → ¬ WellFormed (opened key (keyName id) (h .r)) → loadKey kv rbp key id buf .status ≡ 13
+
+-- a file at the front of the key buffer, its length as the count, the rest as before
+abbrev pub holding : List ℕ → List ℕ → Answer
+holding buf file = record { status = 0; numbers = length file ∷ []; output = file ++ drop (length file) buf }
 
 -- what a done call gives
 abbrev pub FormatGives : Type 0
 FormatGives = (a : KeyAttributes) (material buf : List ℕ) → 480 ≤ length buf → length material ≤ 444
-    → writeKeyFile a material buf ≡ record { status = ok; count = 36 + length material; output = formatKeyFile a material ++ drop (36 + length material) buf }
+    → writeKeyFile a material buf ≡ holding buf (formatKeyFile a material)
 
 -- what a load's 0 asks for
 pub record LoadReady (kv rbp key : List ℕ) (id : ℕ) (buf : List ℕ) : Type 0 where
@@ -144,15 +148,10 @@ pub record LoadReady (kv rbp key : List ℕ) (id : ℕ) (buf : List ℕ) : Type 
   pub readable : Readable kv rbp key (keyName id) 0
   pub well-formed : WellFormed (opened key (keyName id) (readable .r))
 
--- "done leaves the file at the front of the key buffer, its length as the count, the rest as before"
-abbrev pub loaded : List ℕ → List ℕ → Got
-loaded buf file = record { status = ok; count = length file; output = file ++ drop (length file) buf }
-
 pub record LoadExact : Type 0 where
-  pub condition : (kv rbp key : List ℕ) (id : ℕ) (buf : List ℕ)
-      → (loadKey kv rbp key id buf .status ≡ ok) ↔ LoadReady kv rbp key id buf
+  pub condition : (kv rbp key : List ℕ) (id : ℕ) (buf : List ℕ) → (loadKey kv rbp key id buf .status ≡ 0) ↔ LoadReady kv rbp key id buf
   pub gives : (kv rbp key : List ℕ) (id : ℕ) (buf : List ℕ) (h : LoadReady kv rbp key id buf)
-      → loadKey kv rbp key id buf ≡ loaded buf (opened key (keyName id) (h .readable .r))
+      → loadKey kv rbp key id buf ≡ holding buf (opened key (keyName id) (h .readable .r))
 
 -- a save that is not refused for its material is the set of its file; so a done save stores that record under the key's name, byte for byte, and
 -- changes nothing else
@@ -160,12 +159,11 @@ pub record SaveExact : Type 0 where
   pub is-set : (kv rbp key : List ℕ) (id : ℕ) (a : KeyAttributes) (material : List ℕ) (flags : ℕ) (iv : List ℕ) → length material ≤ 444
       → saveKey kv rbp key id a material flags iv ≡ storeSet kv rbp key (keyName id) flags iv (formatKeyFile a material)
   pub stores : (kv rbp key : List ℕ) (id : ℕ) (a : KeyAttributes) (material : List ℕ) (flags : ℕ) (iv : List ℕ)
-      → saveKey kv rbp key id a material flags iv .status ≡ ok
+      → saveKey kv rbp key id a material flags iv .answer .status ≡ 0
       → Stores kv rbp key (keyName id) flags iv (formatKeyFile a material) (saveKey kv rbp key id a material flags iv)
 
 -- a key that was saved is loaded with the same device key
 abbrev pub SaveLoads : Type 0
 SaveLoads = (kv rbp key : List ℕ) (id : ℕ) (a : KeyAttributes) (material : List ℕ) (flags : ℕ) (iv buf : List ℕ)
-    → saveKey kv rbp key id a material flags iv .status ≡ ok → 480 ≤ length buf
-    → loadKey (saveKey kv rbp key id a material flags iv .kv) (saveKey kv rbp key id a material flags iv .rbp) key id buf
-    ≡ record { status = ok; count = 36 + length material; output = formatKeyFile a material ++ drop (36 + length material) buf }
+    → let o = saveKey kv rbp key id a material flags iv in
+    o .answer .status ≡ 0 → 480 ≤ length buf → loadKey (o .after .kv) (o .after .rbp) key id buf ≡ holding buf (formatKeyFile a material)

@@ -6,7 +6,7 @@ use Prim.Native.Nat.{ℕ, _+_, _-_}
 use lib.Dec.{leb}
 use lib.ListN.{length, take, drop}
 use Rattle.spec.specs.Bytes.{bytesEq, u32At}
-use Rattle.spec.specs.Status.{ok, errInvalidKeyFile}
+use Rattle.spec.specs.Status.{ok}
 use Rattle.keys.specs.KeyFile.{mark}
 use Rattle.keys.specs.declared.fields.Field.{Field}
 use Rattle.keys.specs.declared.parse.Header.{Header}
@@ -17,7 +17,7 @@ hasBytes file pos n = leb pos (length file) && leb n (length file - pos)
 
 -- 13, and the place as it was
 abbrev pub refusedAt : ℕ → Field
-refusedAt pos = record { status = errInvalidKeyFile; value = 0; pos = pos }
+refusedAt pos = record { status = 13; value = 0; pos = pos }
 
 -- a field of n bytes taken at a place: its value, and the place behind it; or refused
 unfoldable pub takenAt : Bool → ℕ → ℕ → ℕ → Field

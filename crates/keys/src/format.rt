@@ -6,10 +6,9 @@ use slots::buffers;
 use store::answers::Got;
 use store::status;
 ghost use mathlib.Core.Path.{_≡_};
-ghost use mathlib.Core.List.{_++_};
+ghost use mathlib.Core.List.{[], _∷_, _++_};
 ghost use Prim.Native.Nat.{_+_, _≤_};
 ghost use lib.ListN.{length, drop};
-ghost use Rattle.store.specs.Answers.{got};
 ghost use Rattle.keys.specs.KeyFile.{keyFileHeader, formatKeyFile};
 ghost use Rattle.keys.specs.Calls.{writeKeyFile};
 
@@ -37,7 +36,7 @@ pub(crate) fn put_key_file(attributes: KeyAttributes, material: &[u8], dst: &mut
 }
 
 pub fn format_key_file(attributes: KeyAttributes, material: &[u8], key_buf: &mut [u8]) -> Got
-    ensures { λ r. ⌜ got r (now («key_buf» .exit)) ≡ writeKeyFile attributes (now (material .entry)) (now («key_buf» .entry)) ⌝ }
+    ensures { λ r. ⌜ record { status = r .status; numbers = r .count ∷ []; output = now («key_buf» .exit) } ≡ writeKeyFile attributes (now (material .entry)) (now («key_buf» .entry)) ⌝ }
 {
     if key_buf.len() < key_file::MAX_KEY_FILE {
         return Got {

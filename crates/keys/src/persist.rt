@@ -10,7 +10,7 @@ use store::get;
 use store::set;
 use store::status;
 ghost use mathlib.Core.Path.{_≡_};
-ghost use Rattle.store.specs.Answers.{written, got};
+ghost use mathlib.Core.List.{[], _∷_};
 ghost use Rattle.spec.specs.Name.{keyName};
 ghost use Rattle.spec.specs.Calls.{storeSet, storeGet};
 ghost use Rattle.keys.specs.Calls.{saveKey, loadKey};
@@ -25,7 +25,7 @@ fn set_key(
     iv: &[u8],
     file: &[u8],
 ) -> u32
-    ensures { λ r. ⌜ written r (now (kv .exit)) (now (rbp .exit)) ≡ storeSet (now (kv .entry)) (now (rbp .entry)) (now («device_key» .entry)) (keyName «key_id») flags (now (iv .entry)) (now (file .entry)) ⌝ }
+    ensures { λ r. ⌜ record { answer = record { status = r; numbers = []; output = [] }; after = record { kv = now (kv .exit); rbp = now (rbp .exit) } } ≡ storeSet (now (kv .entry)) (now (rbp .entry)) (now («device_key» .entry)) (keyName «key_id») flags (now (iv .entry)) (now (file .entry)) ⌝ }
 {
     let digits = key_name::key_digits(key_id);
     let name_len = key_name::key_name_len(key_id);
@@ -33,7 +33,7 @@ fn set_key(
 }
 
 fn get_key(kv: &[u8], rbp: &[u8], device_key: &[u8], key_id: u32, file: &mut [u8]) -> Got
-    ensures { λ r. ⌜ got r (now (file .exit)) ≡ storeGet (now (kv .entry)) (now (rbp .entry)) (now («device_key» .entry)) (keyName «key_id») 0 (now (file .entry)) ⌝ }
+    ensures { λ r. ⌜ record { status = r .status; numbers = r .count ∷ []; output = now (file .exit) } ≡ storeGet (now (kv .entry)) (now (rbp .entry)) (now («device_key» .entry)) (keyName «key_id») 0 (now (file .entry)) .answer ⌝ }
 {
     let digits = key_name::key_digits(key_id);
     let name_len = key_name::key_name_len(key_id);
@@ -51,7 +51,7 @@ pub fn save_persistent_key(
     flags: u32,
     iv: &[u8],
 ) -> u32
-    ensures { λ r. ⌜ written r (now (kv .exit)) (now (rbp .exit)) ≡ saveKey (now (kv .entry)) (now (rbp .entry)) (now («device_key» .entry)) «key_id» attributes (now (material .entry)) flags (now (iv .entry)) ⌝ }
+    ensures { λ r. ⌜ record { answer = record { status = r; numbers = []; output = [] }; after = record { kv = now (kv .exit); rbp = now (rbp .exit) } } ≡ saveKey (now (kv .entry)) (now (rbp .entry)) (now («device_key» .entry)) «key_id» attributes (now (material .entry)) flags (now (iv .entry)) ⌝ }
 {
     if key_file::MAX_KEY_MATERIAL < material.len() {
         return status::ERR_INVALID_KEY_FILE;
@@ -76,7 +76,7 @@ pub fn load_persistent_key(
     key_id: u32,
     key_buf: &mut [u8],
 ) -> Got
-    ensures { λ r. ⌜ got r (now («key_buf» .exit)) ≡ loadKey (now (kv .entry)) (now (rbp .entry)) (now («device_key» .entry)) «key_id» (now («key_buf» .entry)) ⌝ }
+    ensures { λ r. ⌜ record { status = r .status; numbers = r .count ∷ []; output = now («key_buf» .exit) } ≡ loadKey (now (kv .entry)) (now (rbp .entry)) (now («device_key» .entry)) «key_id» (now («key_buf» .entry)) ⌝ }
 {
     if key_buf.len() < key_file::MAX_KEY_FILE {
         return refused(status::ERR_LENGTH);

@@ -21,9 +21,9 @@ tag-over : (key name : List ℕ) (flags : ℕ) (meta stored : List ℕ) → tagO
 unfolding tagOver cmacOver sealedTag recordCmac
 tag-over key name flags meta stored = refl
 
-module _ (revision : ℕ) (key name : List ℕ) (flags : ℕ) (iv value : List ℕ) (iv-sized : length iv ≡ 8) where
+module _ (key name : List ℕ) (flags : ℕ) (iv value : List ℕ) (iv-sized : length iv ≡ 8) where
   abbrev meta : List ℕ
-  meta = metadata revision (length value) flags (sealedIv flags iv)
+  meta = metadata (length value) flags (sealedIv flags iv)
 
   abbrev stored : List ℕ
   stored = sealedData key name flags iv value
@@ -42,7 +42,7 @@ module _ (revision : ℕ) (key name : List ℕ) (flags : ℕ) (iv value : List �
   covered-length : length (meta ++ stored) ≡ length value + 20
   covered-length = let m = meta-length in let s = data-length key name flags iv value in length-append meta stored ∙ omega arith
 
-  sealed-length : length (sealRecord revision key name flags iv value) ≡ length value + 36
+  sealed-length : length (sealRecord key name flags iv value) ≡ length value + 36
   unfolding sealRecord
   sealed-length =
       let m = meta-length in
@@ -52,20 +52,20 @@ module _ (revision : ℕ) (key name : List ℕ) (flags : ℕ) (iv value : List �
       let b = length-append stored tag in
       omega arith
 
-  pub sealed-filled : (size : ℕ) (x : List ℕ) → x ≡ sealRecord revision key name flags iv value ++ drop (length value + 36) (zeros size)
-      → x ≡ zeroFill size (sealRecord revision key name flags iv value)
-  sealed-filled size x e = e ∙ fill size (length value + 36) (sealRecord revision key name flags iv value) sealed-length
+  pub sealed-filled : (size : ℕ) (x : List ℕ) → x ≡ sealRecord key name flags iv value ++ drop (length value + 36) (zeros size)
+      → x ≡ zeroFill size (sealRecord key name flags iv value)
+  sealed-filled size x e = e ∙ fill size (length value + 36) (sealRecord key name flags iv value) sealed-length
 
   -- metadata, data and CMAC put in place, each from what the one before it left
-  pub sealed-steps : (d w x y t i : List ℕ) → i ≡ sealedIv flags iv → w ≡ metadata revision (length value) flags i ++ drop 20 d
+  pub sealed-steps : (d w x y t i : List ℕ) → i ≡ sealedIv flags iv → w ≡ metadata (length value) flags i ++ drop 20 d
       → x ≡ putAt w 20 stored → t ≡ tagOver key name flags (take (length value + 20) x) → y ≡ putAt x (length value + 20) t
-      → y ≡ sealRecord revision key name flags iv value ++ drop (length value + 36) d
+      → y ≡ sealRecord key name flags iv value ++ drop (length value + 36) d
   unfolding sealRecord
   sealed-steps d w x y t i ei ew ex et ey =
       let n = length value in
       let covered : n + 20 ≡ 20 + length stored = let s = data-length key name flags iv value in omega arith in
       let fx : x ≡ (meta ++ stored) ++ drop (n + 20) d =
-      ex ∙ ap (λ (l : List ℕ). putAt l 20 stored) (ew ∙ ap (λ (l : List ℕ). metadata revision n flags l ++ drop 20 d) ei)
+      ex ∙ ap (λ (l : List ℕ). putAt l 20 stored) (ew ∙ ap (λ (l : List ℕ). metadata n flags l ++ drop 20 d) ei)
       ∙ put-next d meta stored 20 meta-length ∙ ap (λ (k : ℕ). (meta ++ stored) ++ drop k d) (sym covered) in
       let ft : t ≡ tag =
       et ∙ ap (tagOver key name flags) (ap (take (n + 20)) fx ∙ take-at (meta ++ stored) (drop (n + 20) d) (n + 20) covered-length)

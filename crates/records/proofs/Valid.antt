@@ -9,32 +9,32 @@ use lib.ListN.{length, take, length-drop}
 use lib.Seq.{take-add}
 use borrow.Author.Tests.{eqb-true, leb-true}
 use Rattle.cipher.proofs.Theorems.{lengths}
-use Rattle.spec.specs.Record.{validFlags, maxDataSize, metadataSizeOf, revisionOf, dataSizeOf, flagsOf, metadataOf, storedDataOf, tagOf, recordValid, recordCmac}
+use Rattle.spec.specs.Record.{validFlags, maxDataSize, metadataSizeOf, revisionOf, dataSizeOf, flagsOf, metadataOf, storedDataOf, tagOf, wellFormed, recordCmac}
 use Rattle.spec.proofs.Split.{split, both}
 use Rattle.records.specs.Parts.{fieldsValid, zerosValid, cmacOver}
 
-pub valid-halves : (revision : ℕ) (r : List ℕ) → recordValid revision r ≡ (fieldsValid revision r && zerosValid r)
-unfolding recordValid fieldsValid zerosValid
-valid-halves revision r = simp and-assoc
+pub valid-halves : (r : List ℕ) → wellFormed r ≡ (fieldsValid r && zerosValid r)
+unfolding wellFormed fieldsValid zerosValid
+valid-halves r = simp and-assoc
 
 pub record Sized (r : List ℕ) : Type 0 where
   pub small : dataSizeOf r ≤ maxDataSize
   pub whole : length r ≡ dataSizeOf r + 36
 
-fields-sized : (revision : ℕ) (r : List ℕ) → fieldsValid revision r ≡ true → Sized r
+fields-sized : (r : List ℕ) → fieldsValid r ≡ true → Sized r
 unfolding fieldsValid
-fields-sized revision r e =
+fields-sized r e =
     let a = both (eqb (metadataSizeOf r) 20) _ e .1 in
-    let b = both (eqb (revisionOf r) revision) _ a .1 in
+    let b = both (eqb (revisionOf r) 1) _ a .1 in
     let d = both (validFlags (flagsOf r)) _ b .1 in
     let s = both (leb (dataSizeOf r) maxDataSize) _ d in
     record { small = leb-true _ _ (s .0); whole = eqb-true _ _ (s .1) }
 
-pub valid-sized : (revision : ℕ) (r : List ℕ) → recordValid revision r ≡ true → Sized r
-valid-sized revision r e = fields-sized revision r (both (fieldsValid revision r) (zerosValid r) (rw (valid-halves revision r) at e) .0)
+pub valid-sized : (r : List ℕ) → wellFormed r ≡ true → Sized r
+valid-sized r e = fields-sized r (both (fieldsValid r) (zerosValid r) (rw (valid-halves r) at e) .0)
 
-pub short-invalid : (revision : ℕ) (r : List ℕ) → length r < 36 → recordValid revision r ≡ false
-short-invalid revision r h = split (recordValid revision r) (λ e. let s = valid-sized revision r e in absurd (omega arith)) (λ e. e)
+pub short-invalid : (r : List ℕ) → length r < 36 → wellFormed r ≡ false
+short-invalid r h = split (wellFormed r) (λ e. let s = valid-sized r e in absurd (omega arith)) (λ e. e)
 
 pub tag-length : (r : List ℕ) → Sized r → length (tagOf r) ≡ 16
 tag-length r s = let h = s .whole in rw length-drop (omega arith)

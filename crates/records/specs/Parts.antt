@@ -9,10 +9,10 @@ use Rattle.spec.specs.Bytes.{zeros, allZero}
 use Rattle.spec.specs.Name.{Name}
 use Rattle.spec.specs.Record.{requireConfidentiality, requireIntegrity, validFlags, maxDataSize, metadataSizeOf, revisionOf, dataSizeOf, flagsOf, ivOf, tagOf, authKey}
 
--- `recordValid` in two halves: what the metadata says, and the zeros
-unfoldable pub fieldsValid : ℕ → List ℕ → Bool
-fieldsValid revision r =
-    eqb (metadataSizeOf r) 20 && (eqb (revisionOf r) revision && (validFlags (flagsOf r) && (leb (dataSizeOf r) maxDataSize && eqb (length r) (dataSizeOf r + 36))))
+-- `wellFormed` in two halves: what the metadata says, and the zeros
+unfoldable pub fieldsValid : List ℕ → Bool
+fieldsValid r =
+    eqb (metadataSizeOf r) 20 && (eqb (revisionOf r) 1 && (validFlags (flagsOf r) && (leb (dataSizeOf r) maxDataSize && eqb (length r) (dataSizeOf r + 36))))
 
 unfoldable pub zerosValid : List ℕ → Bool
 zerosValid r = (requireConfidentiality (flagsOf r) || allZero (ivOf r)) && (requireIntegrity (flagsOf r) || allZero (tagOf r))

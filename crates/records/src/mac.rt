@@ -5,7 +5,7 @@ ghost use mathlib.Core.Path.{_≡_};
 ghost use mathlib.Core.Bool.{true};
 ghost use lib.ListN.{length};
 ghost use Rattle.spec.specs.Bytes.{bytesEq};
-ghost use Rattle.spec.specs.Record.{revision1, tagOf, recordValid, macOk};
+ghost use Rattle.spec.specs.Record.{tagOf, wellFormed, macOk};
 ghost use Rattle.records.specs.Parts.{cmacOver};
 
 // The CMAC that a name's record must have: over the name, then the metadata and the data as stored, which stand side by side.
@@ -18,7 +18,7 @@ pub(crate) fn record_cmac(device_key: [u8; 16], name: &[u8], covered: &[u8]) -> 
 
 // Whether a record's CMAC is the computed one.
 pub fn mac_ok(device_key: [u8; 16], name: &[u8], r: &[u8]) -> bool
-    requires { ⌜ recordValid revision1 (now r) ≡ true ⌝ }
+    requires { ⌜ wellFormed (now r) ≡ true ⌝ }
     ensures { λ ok. ⌜ ok ≡ macOk «device_key» (now (name .entry)) (now (r .entry)) ⌝ }
 {
     let end = r.len() - 16;
@@ -28,7 +28,7 @@ pub fn mac_ok(device_key: [u8; 16], name: &[u8], r: &[u8]) -> bool
 
 // Whether a record's CMAC is the one that was kept elsewhere.
 pub fn tag_matches(tag: &[u8], r: &[u8]) -> bool
-    requires { ⌜ (length (now tag) ≡ 16) × (recordValid revision1 (now r) ≡ true) ⌝ }
+    requires { ⌜ (length (now tag) ≡ 16) × (wellFormed (now r) ≡ true) ⌝ }
     ensures { λ same. ⌜ same ≡ bytesEq (now (tag .entry)) (tagOf (now (r .entry))) ⌝ }
 {
     let own = record::record_tag(r);

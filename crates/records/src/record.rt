@@ -8,7 +8,7 @@ ghost use mathlib.Core.Bool.{true, _||_};
 ghost use lib.ListN.{length};
 ghost use Prim.Native.Nat.{_≤_};
 ghost use Rattle.spec.specs.Bytes.{allZero};
-ghost use Rattle.spec.specs.Record.{revision1, dataSizeOf, flagsOf, tagOf, recordValid};
+ghost use Rattle.spec.specs.Record.{dataSizeOf, flagsOf, tagOf, wellFormed};
 ghost use Rattle.records.specs.Parts.{fieldsValid, zerosValid};
 
 // The revision that is written, and the only one accepted.
@@ -16,7 +16,7 @@ pub const REVISION: u32 = 1;
 
 // 01: "well formed". A record that is too short has no field to look at.
 pub fn record_valid(r: &[u8]) -> bool
-    ensures { λ v. ⌜ v ≡ recordValid revision1 (now (r .entry)) ⌝ }
+    ensures { λ v. ⌜ v ≡ wellFormed (now (r .entry)) ⌝ }
 {
     if r.len() < 36 {
         return false;
@@ -27,7 +27,7 @@ pub fn record_valid(r: &[u8]) -> bool
 // The metadata says what the record is.
 fn fields_valid(r: &[u8]) -> bool
     requires { ⌜ 36 ≤ length (now r) ⌝ }
-    ensures { λ v. ⌜ v ≡ fieldsValid revision1 (now (r .entry)) ⌝ }
+    ensures { λ v. ⌜ v ≡ fieldsValid (now (r .entry)) ⌝ }
 {
     let size = numbers::u32_at(r, 4);
     numbers::u16_at(r, 0) == 20
@@ -55,14 +55,14 @@ fn zeros_valid(r: &[u8]) -> bool
 }
 
 pub fn record_flags(r: &[u8]) -> u32
-    requires { ⌜ recordValid revision1 (now r) ≡ true ⌝ }
+    requires { ⌜ wellFormed (now r) ≡ true ⌝ }
     ensures { λ f. ⌜ f ≡ flagsOf (now (r .entry)) ⌝ }
 {
     numbers::u32_at(r, 8)
 }
 
 pub fn record_data_size(r: &[u8]) -> u32
-    requires { ⌜ recordValid revision1 (now r) ≡ true ⌝ }
+    requires { ⌜ wellFormed (now r) ≡ true ⌝ }
     ensures { λ n. ⌜ n ≡ dataSizeOf (now (r .entry)) ⌝ }
 {
     numbers::u32_at(r, 4)
@@ -70,7 +70,7 @@ pub fn record_data_size(r: &[u8]) -> u32
 
 // The CMAC as stored.
 pub(crate) fn record_tag<'a>(r: &'a [u8]) -> &'a [u8]
-    requires { ⌜ recordValid revision1 (now r) ≡ true ⌝ }
+    requires { ⌜ wellFormed (now r) ≡ true ⌝ }
     ensures { λ t. ⌜ now t ≡ tagOf (now (r .entry)) ⌝ }
 {
     let at = r.len() - 16;

@@ -9,15 +9,15 @@ ghost use mathlib.Core.List.{_++_};
 ghost use Prim.Native.Nat.{_+_, _≤_};
 ghost use lib.ListN.{length, drop};
 ghost use Rattle.spec.specs.Bytes.{zeroFill};
-ghost use Rattle.spec.specs.Record.{revision1, metadata, sealedIv, sealedData, sealRecord};
+ghost use Rattle.spec.specs.Record.{metadata, sealedIv, sealedData, sealRecord};
 ghost use Rattle.records.specs.Parts.{putAt, tagOver};
 
-fn put_metadata(revision: u32, data_size: u32, flags: u32, iv: [u8; 8], dst: &mut [u8])
+fn put_metadata(data_size: u32, flags: u32, iv: [u8; 8], dst: &mut [u8])
     requires { ⌜ 20 ≤ length (now dst) ⌝ }
-    ensures { λ _. ⌜ now (dst .exit) ≡ metadata revision «data_size» flags iv ++ drop 20 (now (dst .entry)) ⌝ }
+    ensures { λ _. ⌜ now (dst .exit) ≡ metadata «data_size» flags iv ++ drop 20 (now (dst .entry)) ⌝ }
 {
     numbers::put_u16(20, dst, 0);
-    numbers::put_u16(revision, dst, 2);
+    numbers::put_u16(record::REVISION, dst, 2);
     numbers::put_u32(data_size, dst, 4);
     numbers::put_u32(flags, dst, 8);
     buffers::paste(dst, 12, &iv);
@@ -91,17 +91,11 @@ fn seal_into(
 )
     requires { ⌜ length (now value) + 36 ≤ length (now «record_buf») ⌝ }
     requires { ⌜ length (now «record_buf») ≤ 516 ⌝ }
-    ensures { λ _. ⌜ now («record_buf» .exit) ≡ sealRecord revision1 «device_key» (now (name .entry)) flags iv (now (value .entry)) ++ drop (length (now (value .entry)) + 36) (now («record_buf» .entry)) ⌝ }
+    ensures { λ _. ⌜ now («record_buf» .exit) ≡ sealRecord «device_key» (now (name .entry)) flags iv (now (value .entry)) ++ drop (length (now (value .entry)) + 36) (now («record_buf» .entry)) ⌝ }
 {
     let n = value.len();
     let covered = n + 20;
-    put_metadata(
-        record::REVISION,
-        n as u32,
-        flags,
-        sealed_iv(flags, iv),
-        record_buf,
-    );
+    put_metadata(n as u32, flags, sealed_iv(flags, iv), record_buf);
     put_crypted(device_key, name, flags, iv, value, record_buf, 20);
     let tag = sealed_tag(device_key, name, flags, &record_buf[..covered]);
     buffers::paste(record_buf, covered, &tag);
@@ -116,7 +110,7 @@ pub fn seal_record(
     value: &[u8],
 ) -> [u8; 516]
     requires { ⌜ length (now value) ≤ 480 ⌝ }
-    ensures { λ r. ⌜ r ≡ zeroFill 516 (sealRecord revision1 «device_key» (now (name .entry)) flags iv (now (value .entry))) ⌝ }
+    ensures { λ r. ⌜ r ≡ zeroFill 516 (sealRecord «device_key» (now (name .entry)) flags iv (now (value .entry))) ⌝ }
 {
     let mut record_buf = [0u8; 516];
     seal_into(device_key, name, flags, iv, value, &mut record_buf);

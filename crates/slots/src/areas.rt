@@ -12,7 +12,7 @@ ghost use Rattle.spec.specs.Bytes.{every, isSome};
 ghost use Rattle.spec.specs.Name.{validName};
 ghost use Rattle.spec.specs.Slots.{distinct, joinSlots, firstIndex};
 ghost use Rattle.spec.specs.Area.{kvFormat, payloadSize, slotFree, slotValid, slotHolder, holds, makeSlot, slotCount, slots, sized, names, intact, lookup, hasSpace, insertSlot, eraseSlot};
-ghost use Rattle.spec.specs.Binding.{recordOf};
+ghost use Rattle.spec.specs.Decisions.{recordOf};
 ghost use Rattle.spec.specs.Calls.{nameOr, nextMatch};
 ghost use Rattle.slots.specs.Kind.{formatOf};
 

@@ -1,5 +1,5 @@
 -- The laws of a slot area, over the laws of its format: what an edit does to its own name and to others, and when there is room.
-use mathlib.Core.Path.{_≡_, refl, sym, _∙_}
+use mathlib.Core.Path.{_≡_, refl, sym, ap, _∙_}
 use mathlib.Core.Logic.{_≢_, _⊎_, inl, inr}
 use mathlib.Core.Bool.{Bool, true, false, _&&_}
 use mathlib.Core.List.{List, List·Memᴰ}
@@ -12,7 +12,7 @@ use lib.ListN.{length}
 use Rattle.spec.specs.Bytes.{every, any, zeros}
 use Rattle.spec.specs.Name.{Name, validName}
 use Rattle.spec.specs.Slots.{joinSlots, replaceFirst, findFirst, mapOption, distinct}
-use Rattle.spec.specs.Area.{Format, slotFree, slotName, slotPayload, slotValid, slotHolder, holds, makeSlot, slotCount, slots, sized, names, intact, lookup, hasSpace, target, insertSlot, eraseSlot, Edit, keep, write, clear, editArea}
+use Rattle.spec.specs.Area.{Format, slotFree, slotName, slotPayload, slotValid, slotHolder, holds, makeSlot, slotCount, slots, sized, names, intact, slotOf, lookup, hasSpace, target, insertSlot, eraseSlot, Edit, keep, write, clear, editArea}
 use Rattle.spec.proofs.Split.{splitO, clash, clashO, both}
 use Rattle.spec.proofs.Bytes.{bytesEq-refl, bytesEq-not, length-zeros}
 use Rattle.spec.proofs.Slots.{length-replaceFirst, every-replaceFirst, find-any, one-name, not-held, find-other, find-known, find-new, find-gone, Distinct, distinct-replaceFirst, to-distinct, of-distinct, Within, within-replaceFirst, room}
@@ -24,6 +24,17 @@ abbrev pub editOption : Edit → Option (List ℕ) → Option (List ℕ)
 editOption keep o = o
 editOption (write p) o = some p
 editOption clear o = none
+
+-- something is asked only of an edit that writes
+abbrev pub WhenWritten : Edit → Type 0 → Type 0
+WhenWritten keep T = Unit {0}
+WhenWritten (write p) T = T
+WhenWritten clear T = Unit {0}
+
+pub when-map : {S T : Type 0} (x : Edit) → (S → T) → WhenWritten x S → WhenWritten x T
+when-map keep f s = tt
+when-map (write p) f s = f s
+when-map clear f s = tt
 
 module _ (F : Format) where
   -- 01: "undamaged"
@@ -84,9 +95,9 @@ module _ (F : Format) where
   unfolding lookup
   find-of-some area n p h = splitO (findFirst (holds F n) (slots F area)) (λ e. clashO (lookup F area n) (rw e) h) (λ r e. (r, e))
 
-  lookup-find : (area : List ℕ) (n : Name) → lookup F area n ≡ mapOption (slotPayload F) (findFirst (holds F n) (slots F area))
+  pub lookup-slot : (area : List ℕ) (n : Name) → lookup F area n ≡ mapOption (slotPayload F) (slotOf F area n)
   unfolding lookup
-  lookup-find area n = refl
+  lookup-slot area n = refl
 
   -- the slot that an insert takes
   target-other : (area : List ℕ) (m n : Name) (s : List ℕ) → m ≢ n → target F area n s ≡ true → holds F m s ≡ false
@@ -116,18 +127,6 @@ module _ (F : Format) where
   GoodEdit n keep = Unit {0}
   GoodEdit n (write p) = Good n p
   GoodEdit n clear = Unit {0}
-
-  -- a written name is one of u
-  abbrev pub Listed : List Name → Name → Edit → Type 0
-  Listed u n keep = Unit {0}
-  Listed u n (write p) = List·Memᴰ n u
-  Listed u n clear = Unit {0}
-
-  -- what is written has room
-  abbrev pub Roomed : List ℕ → Name → Edit → Type 0
-  Roomed area n keep = Unit {0}
-  Roomed area n (write p) = HasRoom area n
-  Roomed area n clear = Unit {0}
 
 module _ (F : Format) (L : FormatLaws F) where
   slots-join : (ss : List (List ℕ)) → every (wide (F .slotSize)) ss ≡ true → slots F (joinSlots ss) ≡ ss
@@ -175,17 +174,21 @@ module _ (F : Format) (L : FormatLaws F) where
     unfolding insertSlot
     insert-slots = slots-replaced area (target F area n) (makeSlot F n p) s (made-length F L n p (g .name) (g .payload))
 
+    -- the slot that a name uses after it
+    pub slot-insert : HasRoom F area n → slotOf F (insertSlot F area n p) n ≡ some (makeSlot F n p)
+    slot-insert h = rw insert-slots (splitO (lookup F area n)
+        (λ e. find-new (slotHolder F) n (target F area n) (makeSlot F n p) (slots F area) (made-holds n p g) (find-of-none F area n e) (target-any F area n h))
+        (λ q e. rw e (find-known (slotHolder F) n (makeSlot F n p) _ (slots F area) (made-holds n p g) (find-of-some F area n q e .1))))
+
+    pub slot-insert-other : (m : Name) → m ≢ n → slotOf F (insertSlot F area n p) m ≡ slotOf F area m
+    slot-insert-other m h = rw insert-slots
+        (find-other (slotHolder F) m (target F area n) (makeSlot F n p) (slots F area) (made-other m n p g h) (λ x e. target-other F area m n x h e))
+
     pub lookup-insert : HasRoom F area n → lookup F (insertSlot F area n p) n ≡ some p
-    lookup-insert h = lookup-find F (insertSlot F area n p) n ∙ rw (insert-slots, found, made-payload F L n p (g .name) (g .payload))
-      where
-        found : findFirst (holds F n) (replaceFirst (target F area n) (makeSlot F n p) (slots F area)) ≡ some (makeSlot F n p)
-        found = splitO (lookup F area n)
-            (λ e. find-new (slotHolder F) n (target F area n) (makeSlot F n p) (slots F area) (made-holds n p g) (find-of-none F area n e) (target-any F area n h))
-            (λ q e. rw e (find-known (slotHolder F) n (makeSlot F n p) _ (slots F area) (made-holds n p g) (find-of-some F area n q e .1)))
+    lookup-insert h = lookup-slot F (insertSlot F area n p) n ∙ rw (slot-insert h) (ap some (made-payload F L n p (g .name) (g .payload)))
 
     pub lookup-insert-other : (m : Name) → m ≢ n → lookup F (insertSlot F area n p) m ≡ lookup F area m
-    lookup-insert-other m h = lookup-find F (insertSlot F area n p) m
-        ∙ rw (insert-slots, find-other (slotHolder F) m (target F area n) (makeSlot F n p) (slots F area) (made-other m n p g h) (λ x e. target-other F area m n x h e)) (sym (lookup-find F area m))
+    lookup-insert-other m h = lookup-slot F (insertSlot F area n p) m ∙ rw (slot-insert-other m h) (sym (lookup-slot F area m))
 
   module _ (area n : List ℕ) (s : Sound F area) where
     pub erase-length : length (eraseSlot F area n) ≡ length area
@@ -196,18 +199,22 @@ module _ (F : Format) (L : FormatLaws F) where
     unfolding eraseSlot
     erase-sound = replaced-sound area _ (zeros (F .slotSize)) s (blank-length F) (blank-valid F) (λ m h. clash (holds F m (zeros (F .slotSize))) h (blank-holds F m))
 
-    pub lookup-erase : lookup F (eraseSlot F area n) n ≡ none
+    erase-slots : slots F (eraseSlot F area n) ≡ replaceFirst (holds F n) (zeros (F .slotSize)) (slots F area)
     unfolding eraseSlot
-    lookup-erase = lookup-find F (eraseSlot F area n) n
-        ∙ rw (slots-replaced area (holds F n) (zeros (F .slotSize)) s (blank-length F), find-gone (slotHolder F) n (zeros (F .slotSize)) (slots F area) (sound-distinct F area s) (blank-holds F n))
+    erase-slots = slots-replaced area (holds F n) (zeros (F .slotSize)) s (blank-length F)
+
+    pub slot-erase : slotOf F (eraseSlot F area n) n ≡ none
+    slot-erase = rw erase-slots (find-gone (slotHolder F) n (zeros (F .slotSize)) (slots F area) (sound-distinct F area s) (blank-holds F n))
+
+    pub slot-erase-other : (m : Name) → m ≢ n → slotOf F (eraseSlot F area n) m ≡ slotOf F area m
+    slot-erase-other m h = rw erase-slots
+        (find-other (slotHolder F) m (holds F n) (zeros (F .slotSize)) (slots F area) (blank-holds F m) (λ x e. not-held (slotHolder F) m x n e h))
+
+    pub lookup-erase : lookup F (eraseSlot F area n) n ≡ none
+    lookup-erase = lookup-slot F (eraseSlot F area n) n ∙ rw slot-erase
 
     pub lookup-erase-other : (m : Name) → m ≢ n → lookup F (eraseSlot F area n) m ≡ lookup F area m
-    unfolding eraseSlot
-    lookup-erase-other m h = lookup-find F (eraseSlot F area n) m
-        ∙ rw (
-          slots-replaced area (holds F n) (zeros (F .slotSize)) s (blank-length F),
-          find-other (slotHolder F) m (holds F n) (zeros (F .slotSize)) (slots F area) (blank-holds F m) (λ x e. not-held (slotHolder F) m x n e h),
-        ) (sym (lookup-find F area m))
+    lookup-erase-other m h = lookup-slot F (eraseSlot F area n) m ∙ rw (slot-erase-other m h) (sym (lookup-slot F area m))
 
   -- ---- edits: what they do to a name is what they do in the reference model, and they do nothing to other names
 
@@ -235,14 +242,16 @@ module _ (F : Format) (L : FormatLaws F) where
     enough = rw (replaced-length area t q s z) (r .enough);
   }
 
-  pub edit-roomy : (u : List Name) (area n : List ℕ) (x : Edit) → Sound F area → GoodEdit F n x → Roomy F u area → Listed F u n x → Roomy F u (editArea F area n x)
+  pub edit-roomy : (u : List Name) (area n : List ℕ) (x : Edit) → Sound F area → GoodEdit F n x → Roomy F u area → WhenWritten x (List·Memᴰ n u)
+      → Roomy F u (editArea F area n x)
   unfolding insertSlot eraseSlot
   edit-roomy u area n keep s g r i = r
   edit-roomy u area n (write p) s g r i = roomy-replaced u area _ (makeSlot F n p) s (made-length F L n p (g .name) (g .payload)) r
       (λ m h. rw (one-name (slotHolder F) m n (makeSlot F n p) h (made-holds n p g)) i)
   edit-roomy u area n clear s g r i = roomy-replaced u area _ (zeros (F .slotSize)) s (blank-length F) r (λ m h. clash (holds F m (zeros (F .slotSize))) h (blank-holds F m))
 
-  pub lookup-edit : (area n : List ℕ) (x : Edit) → Sound F area → GoodEdit F n x → Roomed F area n x → lookup F (editArea F area n x) n ≡ editOption x (lookup F area n)
+  pub lookup-edit : (area n : List ℕ) (x : Edit) → Sound F area → GoodEdit F n x → WhenWritten x (HasRoom F area n)
+      → lookup F (editArea F area n x) n ≡ editOption x (lookup F area n)
   lookup-edit area n keep s g h = refl
   lookup-edit area n (write p) s g h = lookup-insert area n p s g h
   lookup-edit area n clear s g h = lookup-erase area n s

@@ -1,113 +1,124 @@
--- When a set's decision is 0, in facts; and that what it then writes may be written.
+-- When a set's tests all pass, in facts; and that what it then writes may be written.
 use mathlib.Core.Path.{_≡_, refl}
-use mathlib.Core.Bool.{Bool, true, false, not, _&&_}
+use mathlib.Core.Bool.{Bool, true, false, not, _&&_, _||_}
 use mathlib.Core.List.{List}
 use mathlib.Core.Option.{Option, none, some}
 use Prim.Native.Nat.{ℕ, _≤_}
 use native.Mathlib.Omega.{arith}
 use borrow.Author.Tests.{eqb-true, eq-eqb, leb-true, le-leb}
-use lib.Dec.{lit<}
+use lib.Dec.{eqb}
 use lib.ListN.{length}
 use Rattle.spec.specs.Bytes.{isSome}
-use Rattle.spec.specs.Status.{ok, refuseIf}
 use Rattle.spec.specs.Name.{Name, validName}
-use Rattle.spec.specs.Record.{writeOnce, requireReplayProtection, validFlags, revision1, maxDataSize, flagsOf, tagOf, sealRecord, Sealable}
+use Rattle.spec.specs.Record.{writeOnce, validFlags, maxDataSize, flagsOf, tagOf, wellFormed, sealRecord, Sealable}
 use Rattle.spec.specs.Area.{kvFormat, rbpFormat}
-use Rattle.spec.specs.Binding.{Binding, setHeld, lacksSpace, setDecision}
-use Rattle.spec.specs.Demands.{Replaceable}
-use Rattle.spec.proofs.Split.{split, splitO, clash, clashO, neither, not-false-is}
+use Rattle.spec.specs.Request.{Binding, Room}
+use Rattle.spec.specs.Decisions.{recordOf, spaceTests, setHeld, setTests}
+use Rattle.spec.specs.Demand2.{Replaceable}
+use Rattle.spec.proofs.Split.{split, splitO, clash, neither, not-false-is}
 use Rattle.spec.proofs.Slot.{kv-fits, rbp-fits}
 use Rattle.spec.proofs.Area.{Good}
 use Rattle.spec.proofs.Record.{sealed-length, sealed-tag-length}
-use Rattle.spec.proofs.Status.{passed}
+use Rattle.spec.proofs.Status.{Passed}
 
--- what is asked of what the name has: of a record on the card, or of none
-pub record HeldOk (flags : ℕ) (o t : Option (List ℕ)) : Type 0 where
-  pub known : (r : List ℕ) → o ≡ some r → Replaceable flags r
-  pub new : o ≡ none → writeOnce flags ≡ true → t ≡ none
+-- a test of the record that is held, and one for a name that holds none
+pub of-held : (o : Option (List ℕ)) (t : List ℕ → Bool) → ((r : List ℕ) → o ≡ some r → t r ≡ false) → (isSome o && t (recordOf o)) ≡ false
+of-held none t h = refl
+of-held (some r) t h = h r refl
 
-held-passed : (flags : ℕ) (o t : Option (List ℕ)) (rest : ℕ) → setHeld flags o t rest ≡ ok → HeldOk flags o t × (rest ≡ ok)
-unfolding setHeld
-held-passed flags none t rest h =
-    let a = passed _ 7 rest (omega arith) h in (
+pub of-absent : (o : Option (List ℕ)) (t : Bool) → (o ≡ none → t ≡ false) → (not (isSome o) && t) ≡ false
+of-absent none t h = h refl
+of-absent (some r) t h = refl
+
+pub held-is : (o : Option (List ℕ)) (t : List ℕ → Bool) (r : List ℕ) → (isSome o && t (recordOf o)) ≡ false → o ≡ some r → t r ≡ false
+held-is o t r h e = rw e at h
+
+pub absent-is : (o : Option (List ℕ)) (t : Bool) → (not (isSome o) && t) ≡ false → o ≡ none → t ≡ false
+absent-is o t h e = rw e at h
+
+-- a test that is asked for only where a flag is set
+pub flagged : (flag test : Bool) → (flag && not test) ≡ false → flag ≡ true → test ≡ true
+flagged true test h e = not-false-is test h
+flagged false test h e = clash false e refl
+
+pub unflagged : (flag test : Bool) → (flag ≡ true → test ≡ true) → (flag && not test) ≡ false
+unflagged true test h = rw (h refl)
+unflagged false test h = refl
+
+module _ (P : ℕ → Bool) (name : Name) (flags : ℕ) (value : List ℕ) (b : Binding) (room : Room) where
+  pub record Decided : Type 0 where
+    pub name-valid : validName name ≡ true
+    pub flags-valid : validFlags flags ≡ true
+    pub value-sized : length value ≤ maxDataSize
+    pub known : (r : List ℕ) → b .stored ≡ some r → Replaceable flags r
+    pub new : b .stored ≡ none → writeOnce flags ≡ true → b .tag ≡ none
+    pub kv-room : b .stored ≡ none → room .kv ≡ true
+    pub rbp-room : P flags ≡ true → b .tag ≡ none → room .rbp ≡ true
+
+  pub decided : Passed (setTests P name flags value b room) → Decided
+  unfolding setHeld
+  decided p =
+      let h = p .1 .1 .1 in
+      let k = h .1 .1 .1 .1 in
       record {
-        known = λ r e. clashO none refl e;
-        new = λ e w. splitO t (λ z. z) (λ x z. clash (writeOnce flags && isSome t) (rw (w, z)) (a .0));
-      },
-      a .1,
-    )
-held-passed flags (some r) t rest h =
-    let a = passed _ 8 _ (omega arith) h in
-    let b = passed _ 7 _ (omega arith) (a .1) in
-    let c = passed _ 9 rest (omega arith) (b .1) in
-    let w = neither (writeOnce (flagsOf r)) (writeOnce flags) (b .0) in
-    let f : Replaceable flags r = record { valid = not-false-is _ (a .0); old-flags = w .0; new-flags = w .1; same-flags = eqb-true flags (flagsOf r) (not-false-is _ (c .0)) } in
-    (record { known = λ x e. let z : r ≡ x = cc in rw z at f; new = λ e. clashO (some r) e refl }, c .1)
+        name-valid = not-false-is (validName name) (p .0);
+        flags-valid = not-false-is (validFlags flags) (p .1 .0);
+        value-sized = leb-true (length value) maxDataSize (not-false-is _ (p .1 .1 .0));
+        known = λ r e.
+            let w = neither (writeOnce (flagsOf r)) (writeOnce flags) (held-is (b .stored) (λ r. writeOnce (flagsOf r) || writeOnce flags) r (h .1 .0) e) in
+            record {
+              valid = not-false-is _ (held-is (b .stored) (λ r. not (wellFormed r)) r (h .0) e);
+              old-flags = w .0;
+              new-flags = w .1;
+              same-flags = eqb-true flags (flagsOf r) (not-false-is _ (held-is (b .stored) (λ r. not (eqb flags (flagsOf r))) r (h .1 .1 .0) e));
+            };
+        new = λ e w. splitO (b .tag) (λ z. z) (λ t z. clash (writeOnce flags && isSome (b .tag)) (rw (w, z)) (absent-is (b .stored) _ (h .1 .1 .1 .0) e));
+        kv-room = λ e. not-false-is (room .kv) (absent-is (b .stored) _ (k .0) e);
+        rbp-room = λ e z. not-false-is (room .rbp) (absent-is (b .tag) _ (rw e at (k .1 .0)) z);
+      }
 
-held-ok : (flags : ℕ) (o t : Option (List ℕ)) (rest : ℕ) → HeldOk flags o t → setHeld flags o t rest ≡ rest
-unfolding setHeld refuseIf
-held-ok flags none t rest h = split (writeOnce flags) (λ e. rw (e, h .new refl e)) (λ e. rw e)
-held-ok flags (some r) t rest h =
-    let k = h .known r refl in
-    rw (k .valid, k .old-flags, k .new-flags, eq-eqb flags (flagsOf r) (k .same-flags))
+  -- there is room for what the flags ask for
+  pub room-passed : (b .stored ≡ none → room .kv ≡ true) → (P flags ≡ true → b .tag ≡ none → room .rbp ≡ true) → Passed (spaceTests P flags b room)
+  room-passed h k = (
+    of-absent (b .stored) (not (room .kv)) (λ e. rw (h e)),
+    (split (P flags) (λ e. rw e (of-absent (b .tag) (not (room .rbp)) (λ z. rw (k e z)))) (λ e. rw e), tt),
+  )
 
--- room for what the flags ask for
-pub lacks-none : (flags : ℕ) (b : Binding) (kvSpace rbpSpace : Bool) → (b .stored ≡ none → kvSpace ≡ true) → (requireReplayProtection flags ≡ true → b .tag ≡ none → rbpSpace ≡ true)
-    → lacksSpace flags b kvSpace rbpSpace ≡ false
-unfolding lacksSpace
-lacks-none flags b kvSpace rbpSpace h k =
-    let p : (not (isSome (b .stored)) && not kvSpace) ≡ false = splitO (b .stored) (λ e. rw (e, h e)) (λ r e. rw e) in
-    let q : (requireReplayProtection flags && (not (isSome (b .tag)) && not rbpSpace)) ≡ false = split (requireReplayProtection flags)
-    (λ e. rw e (splitO (b .tag) (λ z. rw (z, k e z)) (λ t z. rw z))) (λ e. rw e) in
-    rw (p, q)
+  pub decided-passed : Decided → Passed (setTests P name flags value b room)
+  unfolding setHeld
+  decided-passed d = (
+    rw (d .name-valid),
+    (
+      rw (d .flags-valid),
+      (
+        rw (le-leb (length value) maxDataSize (d .value-sized)),
+        (
+          of-held (b .stored) (λ r. not (wellFormed r)) (λ r e. rw (d .known r e .valid)),
+          (
+            of-held (b .stored) (λ r. writeOnce (flagsOf r) || writeOnce flags) (λ r e. rw (d .known r e .old-flags, d .known r e .new-flags)),
+            (
+              of-held (b .stored) (λ r. not (eqb flags (flagsOf r))) (λ r e. rw (eq-eqb flags (flagsOf r) (d .known r e .same-flags))),
+              (
+                of-absent (b .stored) (writeOnce flags && isSome (b .tag)) (λ e. split (writeOnce flags) (λ w. rw (w, d .new e w)) (λ w. rw w)),
+                room-passed (d .kv-room) (d .rbp-room),
+              ),
+            ),
+          ),
+        ),
+      ),
+    ),
+  )
 
-room-of : (o : Option (List ℕ)) (space : Bool) → (not (isSome o) && not space) ≡ false → o ≡ none → space ≡ true
-room-of o space h e = not-false-is space (rw e at h)
-
-pub record Decided (name : Name) (flags : ℕ) (value : List ℕ) (b : Binding) (kvSpace rbpSpace : Bool) : Type 0 where
-  pub name-valid : validName name ≡ true
-  pub flags-valid : validFlags flags ≡ true
-  pub value-sized : length value ≤ maxDataSize
-  pub held : HeldOk flags (b .stored) (b .tag)
-  pub kv-room : b .stored ≡ none → kvSpace ≡ true
-  pub rbp-room : requireReplayProtection flags ≡ true → b .tag ≡ none → rbpSpace ≡ true
-
-pub decided : (name : Name) (flags : ℕ) (value : List ℕ) (b : Binding) (kvSpace rbpSpace : Bool) → setDecision name flags value b kvSpace rbpSpace ≡ ok
-    → Decided name flags value b kvSpace rbpSpace
-unfolding setDecision lacksSpace
-decided name flags value b kvSpace rbpSpace h =
-    let n = passed _ 3 _ (omega arith) h in
-    let f = passed _ 4 _ (omega arith) (n .1) in
-    let v = passed _ 5 _ (omega arith) (f .1) in
-    let p = held-passed flags (b .stored) (b .tag) _ (v .1) in
-    let s = passed _ 10 _ (omega arith) (p .1) in
-    let k = neither (not (isSome (b .stored)) && not kvSpace) (requireReplayProtection flags && (not (isSome (b .tag)) && not rbpSpace)) (s .0) in
-    record {
-      name-valid = not-false-is (validName name) (n .0);
-      flags-valid = not-false-is (validFlags flags) (f .0);
-      value-sized = leb-true (length value) maxDataSize (not-false-is _ (v .0));
-      held = p .0;
-      kv-room = room-of (b .stored) kvSpace (k .0);
-      rbp-room = λ e. room-of (b .tag) rbpSpace (rw e at (k .1));
-    }
-
-pub decided-sealable : (name : Name) (flags : ℕ) (iv value : List ℕ) (b : Binding) (kvSpace rbpSpace : Bool) → Decided name flags value b kvSpace rbpSpace → length iv ≡ 8
-    → Sealable revision1 flags iv value
-decided-sealable name flags iv value b kvSpace rbpSpace d i = record { revision-small = lit< tt; flags-valid = d .flags-valid; iv-sized = i; value-sized = d .value-sized }
-
-pub decided-ok : (name : Name) (flags : ℕ) (value : List ℕ) (b : Binding) (kvSpace rbpSpace : Bool) → Decided name flags value b kvSpace rbpSpace
-    → setDecision name flags value b kvSpace rbpSpace ≡ ok
-unfolding setDecision refuseIf
-decided-ok name flags value b kvSpace rbpSpace d =
-    rw (d .name-valid, d .flags-valid, le-leb (length value) maxDataSize (d .value-sized), held-ok flags (b .stored) (b .tag) _ (d .held), lacks-none flags b kvSpace rbpSpace (d .kv-room) (d .rbp-room))
+  pub decided-sealable : (iv : List ℕ) → Decided → length iv ≡ 8 → Sealable flags iv value
+  decided-sealable iv d i = record { flags-valid = d .flags-valid; iv-sized = i; value-sized = d .value-sized }
 
 -- the record that is then sealed, and its tag, may be written
-module _ (key name : List ℕ) (flags : ℕ) (iv value : List ℕ) (v : validName name ≡ true) (ready : Sealable revision1 flags iv value) where
-  pub sealed-kv-good : Good kvFormat name (sealRecord revision1 key name flags iv value)
+module _ (key name : List ℕ) (flags : ℕ) (iv value : List ℕ) (v : validName name ≡ true) (ready : Sealable flags iv value) where
+  pub sealed-kv-good : Good kvFormat name (sealRecord key name flags iv value)
   sealed-kv-good =
-      let e = sealed-length revision1 key name flags iv value ready in
+      let e = sealed-length key name flags iv value ready in
       let z = ready .value-sized in
       record { name = v; payload = kv-fits _ (omega arith) }
 
-  pub sealed-rbp-good : Good rbpFormat name (tagOf (sealRecord revision1 key name flags iv value))
-  sealed-rbp-good = record { name = v; payload = rbp-fits _ (sealed-tag-length revision1 key name flags iv value ready) }
+  pub sealed-rbp-good : Good rbpFormat name (tagOf (sealRecord key name flags iv value))
+  sealed-rbp-good = record { name = v; payload = rbp-fits _ (sealed-tag-length key name flags iv value ready) }

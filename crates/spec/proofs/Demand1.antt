@@ -1,68 +1,46 @@
 -- Demand 1.
 use mathlib.Core.Path.{_≡_, refl}
 use mathlib.Core.Bool.{true}
-use mathlib.Core.List.{List}
-use mathlib.Core.Option.{Option, none, some}
+use mathlib.Core.List.{List, [], _∷_, map}
 use Prim.Native.Nat.{ℕ}
-use Rattle.spec.specs.Status.{isListed}
-use Rattle.spec.specs.Binding.{Effect, setHeld, setDecision, setEffect, getHeld, getDecision, removeHeld, removeDecision, removeEffect}
-use Rattle.spec.specs.Calls.{written, bindingOf, setStatus, storeSet, getStatus, storeGet, storeGetInfo, removeStatus, storeRemove, storeReset, iteratorStatus, storeIteratorNext}
-use Rattle.spec.specs.Demands.{WrittenWell, Demand1}
-use Rattle.spec.proofs.Status.{refuse-listed, guard-listed, on-refused}
+use lib.ListN.{length}
+use Rattle.spec.specs.Bytes.{every, zeros}
+use Rattle.spec.specs.Status.{isListed, firstOf, answerOf, onOk}
+use Rattle.spec.specs.Record.{requireReplayProtection}
+use Rattle.spec.specs.Request.{Request, found, statusOf, run}
+use Rattle.spec.specs.Decisions.{setHeld, getHeld, removeHeld, setRequest, getRequest, getInfoRequest, removeRequest}
+use Rattle.spec.specs.Calls.{Areas, areas, areaLengths, storeWorld, storeSet, storeGet, storeGetInfo, storeRemove, storeReset, iteratorTests, storeIteratorNext}
+use Rattle.spec.specs.Demand1.{Well, Demand1}
+use Rattle.spec.proofs.Status.{number, first-listed, on-refused}
+use Rattle.spec.proofs.World.{order}
 
--- ---- every status is listed
+-- an answer and areas that hang on a status
+pub well : (n status : ℕ) (numbers written lent : List ℕ) (s t : Areas) → isListed status ≡ true → length numbers ≡ n
+    → Well n lent s (record { answer = answerOf status numbers written lent; after = onOk status t s })
+well n status numbers written lent s t l e = record {
+  listed = l;
+  numbers = λ h. rw (on-refused status numbers (zeros (length numbers)) h, e);
+  output = on-refused status written lent;
+  after = on-refused status t s;
+}
 
-held-set : (flags : ℕ) (o t : Option (List ℕ)) (rest : ℕ) → isListed rest ≡ true → isListed (setHeld flags o t rest) ≡ true
-unfolding setHeld isListed
-held-set flags none t rest h = refuse-listed _ _ _ refl h
-held-set flags (some r) t rest h = refuse-listed _ _ _ refl (refuse-listed _ _ _ refl (refuse-listed _ _ _ refl h))
-
-held-get : (key name : List ℕ) (offset : ℕ) (o t : Option (List ℕ)) → isListed (getHeld key name offset o t) ≡ true
-unfolding getHeld isListed
-held-get key name offset none t = refuse-listed _ _ _ refl refl
-held-get key name offset (some r) t = refuse-listed _ _ _ refl (refuse-listed _ _ _ refl (refuse-listed _ _ _ refl (refuse-listed _ _ _ refl refl)))
-
-held-remove : (o : Option (List ℕ)) → isListed (removeHeld o) ≡ true
-unfolding removeHeld isListed
-held-remove none = refl
-held-remove (some r) = refuse-listed _ _ _ refl (refuse-listed _ _ _ refl refl)
-
-listed-set : (kv rbp key name : List ℕ) (flags : ℕ) (iv value : List ℕ) → isListed (setStatus kv rbp key name flags iv value) ≡ true
-unfolding setStatus setDecision isListed
-listed-set kv rbp key name flags iv value =
-    guard-listed _ _ _ (refuse-listed _ _ _ refl (refuse-listed _ _ _ refl (refuse-listed _ _ _ refl (held-set flags _ _ _ (refuse-listed _ _ _ refl refl)))))
-
-listed-get : (kv rbp key name : List ℕ) (offset : ℕ) → isListed (getStatus kv rbp key name offset) ≡ true
-unfolding getStatus getDecision isListed
-listed-get kv rbp key name offset = guard-listed _ _ _ (refuse-listed _ _ _ refl (held-get key name offset _ _))
-
-listed-remove : (kv rbp name : List ℕ) → isListed (removeStatus kv rbp name) ≡ true
-unfolding removeStatus removeDecision isListed
-listed-remove kv rbp name = guard-listed _ _ _ (refuse-listed _ _ _ refl (held-remove _))
-
-listed-iterator : (kv rbp prefix : List ℕ) (start : ℕ) (nameBuf : List ℕ) → isListed (iteratorStatus kv rbp prefix start nameBuf) ≡ true
-unfolding iteratorStatus isListed
-listed-iterator kv rbp prefix start nameBuf = guard-listed _ _ _ (refuse-listed _ _ _ refl (refuse-listed _ _ _ refl refl))
-
--- ---- a refusal changes nothing and gives zeros
-
-written-well : (status : ℕ) (kv rbp name : List ℕ) (effect : Effect) → isListed status ≡ true → WrittenWell kv rbp (written status kv rbp name effect)
-written-well status kv rbp name effect l = record { listed = l; kv-kept = on-refused status _ kv; rbp-kept = on-refused status _ rbp }
+run-well : (n : ℕ) (s : Areas) (q : Request) → every isListed (map number (order s (q .early) (q .tests (found storeWorld s q) (storeWorld .room s)))) ≡ true
+    → length (q .numbers (found storeWorld s q)) ≡ n → Well n (q .lent) s (run storeWorld s q)
+run-well n s q l e =
+    let b = found storeWorld s q in
+    let tests = order s (q .early) (q .tests b (storeWorld .room s)) in
+    well n (statusOf storeWorld s q) (q .numbers b) (q .output b) (q .lent) s (storeWorld .edit s (q .name) (q .effect b)) (first-listed tests l) e
 
 pub demand1-holds : Demand1
-unfolding storeSet storeGet storeGetInfo storeRemove storeReset storeIteratorNext isListed
+unfolding storeSet storeGet storeGetInfo storeRemove storeReset storeIteratorNext isListed setHeld getHeld removeHeld
 demand1-holds = record {
-  of-set = λ kv rbp key name flags iv value. written-well _ kv rbp name (setEffect key name flags iv value) (listed-set kv rbp key name flags iv value);
-  of-get = λ kv rbp key name offset output.
-      let l = listed-get kv rbp key name offset in
-      record { listed = l; no-count = on-refused _ _ 0; output-kept = on-refused _ _ output };
-  of-getInfo = λ kv rbp key name. record { listed = listed-get kv rbp key name 0; no-size = on-refused _ _ 0; no-flags = on-refused _ _ 0 };
-  of-remove = λ kv rbp name. written-well _ kv rbp name (removeEffect (bindingOf kv rbp name)) (listed-remove kv rbp name);
-  of-reset = λ kv rbp. record { listed = refuse-listed _ _ _ refl refl; kv-kept = on-refused _ _ kv; rbp-kept = on-refused _ _ rbp };
-  of-iteratorNext = λ kv rbp prefix start nameBuf. record {
-    listed = listed-iterator kv rbp prefix start nameBuf;
-    no-length = on-refused _ _ 0;
-    no-slot = on-refused _ _ 0;
-    buf-kept = on-refused _ _ nameBuf;
-  };
+  of-set = λ kv rbp key name flags iv value. run-well 0 (areas kv rbp) (setRequest requireReplayProtection key name flags iv value) refl refl;
+  of-get = λ kv rbp key name offset output. run-well 1 (areas kv rbp) (getRequest requireReplayProtection key name offset output) refl refl;
+  of-getInfo = λ kv rbp key name. run-well 2 (areas kv rbp) (getInfoRequest requireReplayProtection key name) refl refl;
+  of-remove = λ kv rbp name. run-well 0 (areas kv rbp) (removeRequest requireReplayProtection name) refl refl;
+  of-reset = λ kv rbp. well 0 _ [] [] [] (areas kv rbp) _ (first-listed (areaLengths (areas kv rbp)) refl) refl;
+  of-iteratorNext = λ kv rbp prefix start nameBuf.
+      let w = well 2 (firstOf (iteratorTests kv rbp prefix start nameBuf)) (_ ∷ _ ∷ []) _ nameBuf (areas kv rbp) (areas kv rbp)
+      (first-listed (iteratorTests kv rbp prefix start nameBuf) refl) refl in
+      record { listed = w .listed; numbers = w .numbers; output = w .output; after = λ h. refl };
 }

@@ -1,6 +1,6 @@
 -- An area without damage, and what it holds for a name, slot by slot.
 use mathlib.Core.Path.{_≡_, refl, sym, ap, _∙_}
-use mathlib.Core.Logic.{_⊎_, inl, inr}
+use mathlib.Core.Logic.{_⊎_, inl, inr, _↔_}
 use mathlib.Core.Bool.{Bool, true, false, _||_}
 use mathlib.Core.List.{List, [], _∷_}
 use mathlib.Core.Option.{Option, none, some}
@@ -12,10 +12,9 @@ use lib.ListN.{length, getD}
 use Rattle.spec.specs.Bytes.{every, any}
 use Rattle.spec.specs.Name.{Name}
 use Rattle.spec.specs.Slots.{distinct, firstIndex, findFirst}
-use Rattle.spec.specs.Area.{Format, slotPayload, slotValid, slotHolder, holds, slotCount, slots, names, intact, lookup}
-use Rattle.spec.specs.Shapes.{slotAt, NoDamage, IntactShape, Holds, LookupShape}
+use Rattle.spec.specs.Area.{Format, slotValid, slotHolder, holds, slotCount, slots, names, intact, slotOf, lookup}
+use Rattle.spec.specs.Shapes.{slotAt, NoDamage, SlotHeld, LookupShape}
 use Rattle.spec.proofs.Split.{split, splitO, clash, clashO, both}
-use Rattle.spec.proofs.Area.{find-of-some}
 use Rattle.spec.proofs.Bytes.{bytesEq-refl}
 use Rattle.spec.proofs.Slots.{held, held-at, find-any, Distinct, to-distinct, of-distinct}
 use Rattle.spec.proofs.Chunks.{length-chunks, chunk-at}
@@ -121,35 +120,36 @@ module _ (F : Format) (area : List ℕ) where
       h .once i j n c g (rw (at-is i c) at e) (rw (at-is j g) at f))) in
       rw (p, q)
 
-  -- ---- lookup
+  -- ---- the slot of a name
 
-  holds-of : (name payload : List ℕ) → lookup F area name ≡ some payload → Holds F area name payload
-  unfolding lookup
-  holds-of name payload h =
-      let s = find-of-some F area name payload h in
-      let f = find-index [] (holds F name) (slots F area) (s .0) (s .1) in
+  held-of : (name slot : List ℕ) → slotOf F area name ≡ some slot → SlotHeld F area name slot
+  held-of name slot h =
+      let f = find-index [] (holds F name) (slots F area) slot h in
       let k : f .0 < slotCount F area = rw count at (f .1) in
-      let e : s .0 ≡ slotAt F area (f .0) = sym (f .2) ∙ at-is (f .0) k in
-      let p : slotPayload F (s .0) ≡ payload = some-inj (rw (s .1) at h) in
+      let e : slot ≡ slotAt F area (f .0) = sym (f .2) ∙ at-is (f .0) k in
       record {
         i = f .0;
         in-range = k;
-        held = rw e at (held-at (slotHolder F) name (s .0) (f .3));
+        held = rw e at (held-at (slotHolder F) name slot (f .3));
         lowest = λ j l z. clash _ (at-held [] (slotHolder F) name (slotAt F area j) z) (rw (at-is j (omega arith)) at (f .4 j l));
-        payload-is = rw e at p;
+        slot-is = sym e;
       }
 
-  lookup-of : (name payload : List ℕ) → Holds F area name payload → lookup F area name ≡ some payload
-  unfolding lookup
-  lookup-of name payload h =
+  slot-of : (name slot : List ℕ) → SlotHeld F area name slot → slotOf F area name ≡ some slot
+  slot-of name slot h =
       let k = h .in-range in
       let e = at-is (h .i) k in
       let f = index-find [] (holds F name) (slots F area) (h .i) (rw count k) (rw e (at-held [] (slotHolder F) name _ (h .held)))
       (λ j l. rw (at-is j (omega arith)) (split (holds F name (slotAt F area j)) (λ z. absurd (h .lowest j l (held-at (slotHolder F) name _ z))) (λ z. z))) in
-      rw (f, e) (ap some (h .payload-is))
+      f ∙ rw e (ap some (h .slot-is))
 
-pub lookup-shape : LookupShape
-lookup-shape F area name payload = (holds-of F area name payload, lookup-of F area name payload)
+pub lookup-shape : (F : Format) (area name : List ℕ) → LookupShape F area name
+unfolding lookup
+lookup-shape F area name = record {
+  slot = λ slot. (held-of F area name slot, slot-of F area name slot);
+  payload = λ slot h. rw h;
+  none-there = λ h. rw h;
+}
 
-pub intact-shape : IntactShape
+pub intact-shape : (F : Format) (area : List ℕ) → (intact F area ≡ true) ↔ NoDamage F area
 intact-shape F area = (no-damage F area, undamaged F area)

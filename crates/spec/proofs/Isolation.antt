@@ -1,67 +1,84 @@
--- Demand 3.
+-- Demand 3: the store's world agrees with the reference model's, and whole lists follow.
 use mathlib.Core.Path.{_≡_, refl, sym, ap, _∙_}
 use mathlib.Core.Logic.{_≢_}
 use mathlib.Core.Bool.{Bool, true, false}
-use mathlib.Core.List.{List, _∷_, _++_, List·Memᴰ, List·Memᴰ·head, List·Memᴰ·tail, Memᴰ·append-left, Memᴰ·append-right}
-use mathlib.Core.Option.{none}
+use mathlib.Core.List.{List, _∷_, _++_, flatten, List·Memᴰ, List·Memᴰ·head, List·Memᴰ·tail, Memᴰ·append-left, Memᴰ·append-right}
+use mathlib.Core.Option.{Option}
 use Prim.Native.Nat.{ℕ, _≤_}
 use lib.ListN.{length}
-use Rattle.spec.specs.Bytes.{bytesEq}
-use Rattle.spec.specs.Status.{ok, refuseIf, onOk}
-use Rattle.spec.specs.Name.{Name, validName}
-use Rattle.spec.specs.Record.{requireReplayProtection, flagsOf}
+use Rattle.spec.specs.Status.{ok, firstOf}
+use Rattle.spec.specs.Name.{Name}
 use Rattle.spec.specs.Slots.{dedup}
-use Rattle.spec.specs.Area.{Format, kvFormat, rbpFormat, slotHolder, slotCount, slots, names, hasSpace, Edit, editArea}
-use Rattle.spec.specs.Binding.{Binding, recordOf, setDecision, setEffect, removeEffect}
-use Rattle.spec.specs.Calls.{guarded, bindingOf}
+use Rattle.spec.specs.Area.{Format, kvFormat, rbpFormat, slotHolder, slotCount, slots, names}
+use Rattle.spec.specs.Request.{Binding, Effect, Request, found, statusOf}
+use Rattle.spec.specs.Calls.{Areas, areas, areaLengths, areaDamage, bindingOf, roomOf, storeWorld}
 use Rattle.spec.specs.Interleaving.{Side, left, right, isSide, Tagged, by, part, Interleaving, answers, final, sharedStep}
-use Rattle.spec.specs.Model.{Call, setCall, getCall, getInfoCall, removeCall, callName, Model, modelOf, modelBinding, modelStep}
-use Rattle.spec.specs.Demands.{Areas, storeStep, isSet, isProtectedSet, namesWhere, Names, IsolationPremise, Isolated, ClientIsolation, atEnd}
+use Rattle.spec.specs.Model.{Call, requestOf, callName, modelOf, modelBinding, modelWorld, modelStep, storeStep}
+use Rattle.spec.specs.Demand3.{Names, namesWhere, isSet, isProtectedSet, IsolationPremise, Isolated, ClientIsolation, atEnd}
 use Rattle.spec.proofs.Split.{split, clash}
-use Rattle.spec.proofs.Bytes.{bytesEq-eq, bytesEq-refl, dedup-in}
+use Rattle.spec.proofs.Bytes.{dedup-in}
 use Rattle.spec.proofs.Slots.{find-in}
-use Rattle.spec.proofs.Slot.{FormatLaws, kv-laws, rbp-laws}
-use Rattle.spec.proofs.Area.{Sound, GoodEdit, Roomy, roomy-space, Listed, edit-roomy}
-use Rattle.spec.proofs.Status.{guard-passed, on-ok, on-refused}
-use Rattle.spec.proofs.Decision.{decided, lacks-none}
-use Rattle.spec.proofs.Interleaving.{Separate, each-in, part-in, part-none, side-other, alone}
+use Rattle.spec.proofs.Slot.{kv-laws, rbp-laws}
+use Rattle.spec.proofs.Area.{Sound, GoodEdit, WhenWritten, when-map, HasRoom, Roomy, roomy-space, edit-sound, edit-length, edit-roomy, lookup-edit, lookup-edit-other}
+use Rattle.spec.proofs.Status.{past, under}
+use Rattle.spec.proofs.World.{Sane, lengths-passed, damage-passed, accepted}
+use Rattle.spec.proofs.Interleaving.{each-in, part-in, part-none, side-other, alone}
 use Rattle.spec.proofs.Model.{table-same, table-other, model-start}
-use Rattle.spec.proofs.Request.{requestOf, modelStatus, store-run, model-run}
-use Rattle.spec.proofs.Effect.{by-status, status, effect, applied, binding-eq, refused-unchanged, accepted-binding, other-binding, after-kv-length, after-rbp-length, after-kv-sound, after-rbp-sound}
+use Rattle.spec.proofs.Worlds.{Agreeing, edited, separate}
+use Rattle.spec.proofs.Lawful.{Lawful, lawful, enough}
 
--- ---- one area, with the names u that it has room for
-
-module _ (F : Format) (L : FormatLaws F) (u : List Name) where
-  edited-roomy : (status : ℕ) (area n : List ℕ) (x : Edit) → (status ≡ ok → Sound F area) → (status ≡ ok → GoodEdit F n x) → (status ≡ ok → Listed F u n x) → Roomy F u area
-      → Roomy F u (onOk status (editArea F area n x) area)
-  edited-roomy status area n x s g i r = by-status status
-      (λ e. rw (on-ok status (editArea F area n x) area e) (edit-roomy F L u area n x (s e) (g e) r (i e)))
-      (λ e. rw (on-refused status (editArea F area n x) area e) r)
+pub binding-eq : {o t : Option (List ℕ)} {b : Binding} → o ≡ b .stored → t ≡ b .tag → record { stored = o; tag = t } ≡ b
+binding-eq p q = λ i. record { stored = p i; tag = q i }
 
 start-roomy : (F : Format) (u : List Name) (area : List ℕ) → ((n : Name) → List·Memᴰ n (names F area) → List·Memᴰ n u) → length u ≤ slotCount F area → Roomy F u area
 start-roomy F u area w e = record { within = λ m r k. w m (find-in (slotHolder F) m (slots F area) r k); enough = e }
 
--- ---- the calls: room makes no difference where the names fit, and what is written is among them
+-- ---- an accepted request, in the store
 
-decide-room : (c : Call) (b : Binding) (kvSpace rbpSpace : Bool) → (isSet c ≡ true → b .stored ≡ none → kvSpace ≡ true) → (isProtectedSet c ≡ true → b .tag ≡ none → rbpSpace ≡ true)
-    → requestOf c .decide b kvSpace rbpSpace ≡ requestOf c .decide b true true
-unfolding setDecision refuseIf
-decide-room (setCall key name flags iv value) b kvSpace rbpSpace h k = split (validName name)
-    (λ e. rw (e, lacks-none flags b kvSpace rbpSpace (h e) (λ r. k (rw (e, r))), lacks-none flags b true true (λ z. refl) (λ r z. refl)))
-    (λ e. rw e)
-decide-room (getCall key name offset output) b kvSpace rbpSpace h k = refl
-decide-room (getInfoCall key name) b kvSpace rbpSpace h k = refl
-decide-room (removeCall name) b kvSpace rbpSpace h k = refl
+-- what it has found, and what its effect may do
+module _ (s : Areas) (q : Request) (L : Lawful q) where
+  abbrev b : Binding
+  b = found storeWorld s q
 
-effect-listed : (u v : List Name) (c : Call) (b : Binding) (kvSpace rbpSpace : Bool) → (isSet c ≡ true → List·Memᴰ (callName c) u) → (isProtectedSet c ≡ true → List·Memᴰ (callName c) v)
-    → requestOf c .decide b kvSpace rbpSpace ≡ ok → Listed kvFormat u (callName c) (requestOf c .effect b .kv) × Listed rbpFormat v (callName c) (requestOf c .effect b .rbp)
-unfolding setEffect removeEffect
-effect-listed u v (setCall key name flags iv value) b kvSpace rbpSpace h k d =
-    let a = decided name flags value b kvSpace rbpSpace d in
-    (h (a .name-valid), split (requireReplayProtection flags) (λ e. rw e (k (rw (a .name-valid, e)))) (λ e. rw e tt))
-effect-listed u v (getCall key name offset output) b kvSpace rbpSpace h k d = (tt, tt)
-effect-listed u v (getInfoCall key name) b kvSpace rbpSpace h k d = (tt, tt)
-effect-listed u v (removeCall name) b kvSpace rbpSpace h k d = (tt, split (requireReplayProtection (flagsOf (recordOf (b .stored)))) (λ e. rw e tt) (λ e. rw e tt))
+  abbrev e : Effect
+  e = q .effect b
+
+  pub record Applied : Type 0 where
+    pub undamaged : Sane s
+    pub kv-sound : Sound kvFormat (s .kv)
+    pub rbp-sound : Sound rbpFormat (s .rbp)
+    pub kv-good : GoodEdit kvFormat (q .name) (e .kv)
+    pub rbp-good : GoodEdit rbpFormat (q .name) (e .rbp)
+    pub kv-needs : WhenWritten (e .kv) ((q .puts .kv ≡ true) × HasRoom kvFormat (s .kv) (q .name))
+    pub rbp-needs : WhenWritten (e .rbp) ((q .puts .rbp ≡ true) × HasRoom rbpFormat (s .rbp) (q .name))
+
+  pub applied : statusOf storeWorld s q ≡ ok → Applied
+  applied h =
+      let a = accepted s (q .early) (q .tests b (roomOf (s .kv) (s .rbp))) (L .numbered s b (roomOf (s .kv) (s .rbp))) h in
+      let u = a .undamaged in
+      let g = L .good b (roomOf (s .kv) (s .rbp)) (a .lengths) (a .rest) in
+      let n = L .needs b (roomOf (s .kv) (s .rbp)) (a .rest) in
+      record {
+        undamaged = u;
+        kv-sound = record { size = u .kv-sized; good = u .kv-intact };
+        rbp-sound = record { size = u .rbp-sized; good = u .rbp-intact };
+        kv-good = g .0;
+        rbp-good = g .1;
+        kv-needs = n .0;
+        rbp-needs = n .1;
+      }
+
+  module _ (a : Applied) where
+    pub own-binding : bindingOf (storeWorld .edit s (q .name) e .kv) (storeWorld .edit s (q .name) e .rbp) (q .name) ≡ edited e b
+    own-binding = binding-eq
+        (lookup-edit kvFormat kv-laws (s .kv) (q .name) (e .kv) (a .kv-sound) (a .kv-good) (when-map (e .kv) (λ n. n .1) (a .kv-needs)))
+        (lookup-edit rbpFormat rbp-laws (s .rbp) (q .name) (e .rbp) (a .rbp-sound) (a .rbp-good) (when-map (e .rbp) (λ n. n .1) (a .rbp-needs)))
+
+    pub other-binding : (n : Name) → n ≢ q .name
+        → bindingOf (storeWorld .edit s (q .name) e .kv) (storeWorld .edit s (q .name) e .rbp) n ≡ bindingOf (s .kv) (s .rbp) n
+    other-binding n h = binding-eq
+        (lookup-edit-other kvFormat kv-laws (s .kv) n (q .name) (e .kv) (a .kv-sound) (a .kv-good) h)
+        (lookup-edit-other rbpFormat rbp-laws (s .rbp) n (q .name) (e .rbp) (a .rbp-sound) (a .rbp-good) h)
 
 -- ---- the store beside the model, for the clients of a test and the names that are theirs
 
@@ -80,71 +97,53 @@ module _ (u v : List Name) (kvSize rbpSize : ℕ) (mine : Side → Bool) (Mine :
     kv-listed : isSet c ≡ true → List·Memᴰ (callName c) u
     rbp-listed : isProtectedSet c ≡ true → List·Memᴰ (callName c) v
 
-  abbrev Agree : Areas → Model → Type 0
-  Agree s m = (n : Name) → Mine n → bindingOf (s .kv) (s .rbp) n ≡ modelBinding m n
+  module _ (s : Areas) (c : Call) (d : Side) (a : Allowed d c) (o : Ok s) where
+    abbrev q : Request
+    q = requestOf c
 
-  module _ (d : Side) (s : Areas) (c : Call) (a : Allowed d c) (o : Ok s) where
-    listed : status s c ≡ ok → Listed kvFormat u (callName c) (effect s c .kv) × Listed rbpFormat v (callName c) (effect s c .rbp)
-    listed e = effect-listed u v c _ _ _ (a .kv-listed) (a .rbp-listed) (guard-passed _ _ _ e .2)
+    keeps : statusOf storeWorld s q ≡ ok → Ok (storeWorld .edit s (q .name) (q .effect (found storeWorld s q)))
+    keeps h =
+        let p = applied s q (lawful c) h in
+        let x = q .effect (found storeWorld s q) in
+        record {
+          kv-sound = edit-sound kvFormat kv-laws (s .kv) (q .name) (x .kv) (o .kv-sound) (p .kv-good);
+          rbp-sound = edit-sound rbpFormat rbp-laws (s .rbp) (q .name) (x .rbp) (o .rbp-sound) (p .rbp-good);
+          kv-roomy = edit-roomy kvFormat kv-laws u (s .kv) (q .name) (x .kv) (o .kv-sound) (p .kv-good) (o .kv-roomy)
+              (when-map (x .kv) (λ n. a .kv-listed (n .0)) (p .kv-needs));
+          rbp-roomy = edit-roomy rbpFormat rbp-laws v (s .rbp) (q .name) (x .rbp) (o .rbp-sound) (p .rbp-good) (o .rbp-roomy)
+              (when-map (x .rbp) (λ n. a .rbp-listed (n .0)) (p .rbp-needs));
+          kv-length = edit-length kvFormat kv-laws (s .kv) (q .name) (x .kv) (o .kv-sound) (p .kv-good) ∙ o .kv-length;
+          rbp-length = edit-length rbpFormat rbp-laws (s .rbp) (q .name) (x .rbp) (o .rbp-sound) (p .rbp-good) ∙ o .rbp-length;
+        }
 
-    keeps : Ok (storeStep s c .after)
-    keeps = record {
-      kv-sound = after-kv-sound s c (o .kv-sound);
-      rbp-sound = after-rbp-sound s c (o .rbp-sound);
-      kv-roomy = rw (store-run s c) (edited-roomy kvFormat kv-laws u (status s c) (s .kv) (callName c) (effect s c .kv) (λ e. o .kv-sound) (λ e. applied s c e .kv-good) (λ e. listed e .0) (o .kv-roomy));
-      rbp-roomy = rw (store-run s c) (edited-roomy rbpFormat rbp-laws v (status s c) (s .rbp) (callName c) (effect s c .rbp) (λ e. o .rbp-sound) (λ e. applied s c e .rbp-good) (λ e. listed e .1) (o .rbp-roomy));
-      kv-length = after-kv-length s c ∙ o .kv-length;
-      rbp-length = after-rbp-length s c ∙ o .rbp-length;
-    }
+    -- the areas are sound and there is room, so the status is decided by what the name has alone
+    status-is : statusOf storeWorld s q ≡ firstOf (q .early ++ q .tests (found storeWorld s q) enough)
+    status-is =
+        let sane : Sane s = record { kv-sized = o .kv-sound .size; rbp-sized = o .rbp-sound .size; kv-intact = o .kv-sound .good; rbp-intact = o .rbp-sound .good } in
+        let b = found storeWorld s q in
+        let tests = q .tests b (roomOf (s .kv) (s .rbp)) in
+        past (areaLengths s) (q .early ++ (areaDamage s ++ tests)) (lengths-passed s sane)
+        ∙ under (q .early) (areaDamage s ++ tests) (q .tests b enough)
+        (past (areaDamage s) tests (damage-passed s sane) ∙ lawful c .roomless b (roomOf (s .kv) (s .rbp))
+        (λ i. roomy-space kvFormat u (s .kv) (callName c) (o .kv-sound) (o .kv-roomy) (a .kv-listed i))
+        (λ i. roomy-space rbpFormat v (s .rbp) (callName c) (o .rbp-sound) (o .rbp-roomy) (a .rbp-listed i)))
 
-    ignores : (m : Model) → mine d ≡ false → Agree s m → Agree (storeStep s c .after) m
-    ignores m i g n j = other-binding s c n (λ z. a .others i (rw z at j)) ∙ g n j
-
-    -- the areas are sound and there is room, so the status is decided by the name's binding alone
-    status-is : status s c ≡ guarded (requestOf c .lengths) true (requestOf c .decide (bindingOf (s .kv) (s .rbp) (callName c)) true true)
-    status-is = rw (
-      o .kv-sound .size,
-      o .rbp-sound .size,
-      o .kv-sound .good,
-      o .rbp-sound .good,
-      decide-room c (bindingOf (s .kv) (s .rbp) (callName c)) (hasSpace kvFormat (s .kv)) (hasSpace rbpFormat (s .rbp))
-          (λ i. roomy-space kvFormat u (s .kv) (callName c) (o .kv-sound) (o .kv-roomy) (a .kv-listed i))
-          (λ i. roomy-space rbpFormat v (s .rbp) (callName c) (o .rbp-sound) (o .rbp-roomy) (a .rbp-listed i)),
-    )
-
-    module _ (m : Model) (i : mine d ≡ true) (g : Agree s m) where
-      own : bindingOf (s .kv) (s .rbp) (callName c) ≡ modelBinding m (callName c)
-      own = g (callName c) (a .ours i)
-
-      same-status : status s c ≡ modelStatus m (callName c) (requestOf c)
-      same-status = status-is ∙ rw own
-
-      answered : storeStep s c .answer ≡ modelStep m c .answer
-      answered = rw (store-run s c, model-run m c, same-status, own)
-
-      -- the model after the call, at a name
-      follows : Agree (storeStep s c .after) (modelStep m c .after)
-      follows n j = rw (model-run m c, ← same-status, ← own) (by-status (status s c)
-          (λ e. rw (on-ok (status s c) _ m e) (split (bytesEq n (callName c))
-          (λ z. rw (bytesEq-eq n (callName c) z) (accepted-binding s c e (modelBinding m (callName c)) own
-          ∙ binding-eq (sym (table-same (m .records) (callName c) (effect s c .kv))) (sym (table-same (m .tags) (callName c) (effect s c .rbp)))))
-          (λ z.
-          let h : n ≢ callName c = λ y. clash (bytesEq n (callName c)) (rw y (bytesEq-refl (callName c))) z in
-          other-binding s c n h ∙ g n j
-          ∙ binding-eq (sym (table-other (m .records) n (callName c) (effect s c .kv) h)) (sym (table-other (m .tags) n (callName c) (effect s c .rbp) h)))))
-          (λ e. rw (on-refused (status s c) _ m e, refused-unchanged s c e) (g n j)))
-
-  separate : Separate storeStep modelStep mine Ok Allowed Agree
-  separate = record {
-    keeps = λ d s c a o. keeps d s c a o;
-    answered = λ d s m c a i o g. answered d s c a o m i g;
-    follows = λ d s m c a i o g. follows d s c a o m i g;
-    ignores = λ d s m c a i o g. ignores d s c a o m i g;
+  agreeing : Agreeing storeWorld modelWorld requestOf mine Mine Ok Allowed
+  agreeing = record {
+    ours = λ d c a. a .ours;
+    others = λ d c a. a .others;
+    same-status = λ d s m c a i o g. status-is s c d a o ∙ rw (g (callName c) (a .ours i));
+    keeps = λ d s c a o h. keeps s c d a o h;
+    own = λ d s c a o h. own-binding s (requestOf c) (lawful c) (applied s (requestOf c) (lawful c) h);
+    other = λ d s c a o h. other-binding s (requestOf c) (lawful c) (applied s (requestOf c) (lawful c) h);
+    model-own = λ m n e. binding-eq (table-same (m .records) n (e .kv)) (table-same (m .tags) n (e .rbp));
+    model-other = λ m n k e h. binding-eq (table-other (m .records) k n (e .kv) h) (table-other (m .tags) k n (e .rbp) h);
   }
 
 -- ---- whole lists
 
 where-in : (t : Call → Bool) (c : Call) (cs : List Call) → List·Memᴰ c cs → t c ≡ true → List·Memᴰ (callName c) (namesWhere t cs)
+unfolding flatten
 where-in t c (b ∷ cs) (List·Memᴰ·head e) h =
     let p : t b ≡ true = rw e at h in
     rw p (List·Memᴰ·head (ap callName e))
@@ -179,7 +178,7 @@ module _ (kv rbp : List ℕ) (ls rs : List Call) (l : List (Tagged Call)) (w : I
     abbrev OkHere : Areas → Type 0
     OkHere = Ok (asked kvFormat kv isSet) (asked rbpFormat rbp isProtectedSet) (length kv) (length rbp) mine Mine
 
-    ok-start : OkHere (record { kv = kv; rbp = rbp })
+    ok-start : OkHere (areas kv rbp)
     ok-start = record {
       kv-sound = record { size = p .undamaged .kv-sized; good = p .undamaged .kv-intact };
       rbp-sound = record { size = p .undamaged .rbp-sized; good = p .undamaged .rbp-intact };
@@ -189,11 +188,12 @@ module _ (kv rbp : List ℕ) (ls rs : List Call) (l : List (Tagged Call)) (w : I
       rbp-length = refl;
     }
 
-    seen : (part mine (answers (sharedStep storeStep) (record { kv = kv; rbp = rbp }) l) ≡ answers modelStep (modelOf kv rbp) (part mine l))
+    seen : (part mine (answers (sharedStep storeStep) (areas kv rbp) l) ≡ answers modelStep (modelOf kv rbp) (part mine l))
         × ((n : Name) → Mine n → bindingOf (atEnd kv rbp ls rs l .kv) (atEnd kv rbp ls rs l .rbp) n ≡ modelBinding (final modelStep (modelOf kv rbp) (part mine l)) n)
         × OkHere (atEnd kv rbp ls rs l)
-    seen = alone storeStep modelStep mine _ _ _ (separate (asked kvFormat kv isSet) (asked rbpFormat rbp isProtectedSet) (length kv) (length rbp) mine Mine)
-        (record { kv = kv; rbp = rbp }) (modelOf kv rbp) l
+    seen = alone storeStep modelStep mine _ _ _
+        (separate storeWorld modelWorld requestOf mine Mine _ _ (agreeing (asked kvFormat kv isSet) (asked rbpFormat rbp isProtectedSet) (length kv) (length rbp) mine Mine))
+        (areas kv rbp) (modelOf kv rbp) l
         (each-in _ l (λ d c m. record {
           ours = ours d c m;
           others = others d c m;

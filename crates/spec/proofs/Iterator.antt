@@ -1,7 +1,7 @@
 -- The exact condition for an iterator_next's 0, and what it gives.
 use mathlib.Core.Path.{_≡_, refl, sym, _∙_}
-use mathlib.Core.Bool.{Bool, true, false}
-use mathlib.Core.List.{List, [], _++_}
+use mathlib.Core.Bool.{Bool, true, false, not}
+use mathlib.Core.List.{List, [], _∷_, _++_}
 use mathlib.Core.Option.{Option, none, some}
 use Prim.Native.Nat.{ℕ, suc, _+_, _-_, _≤_, _<_}
 use native.Mathlib.Omega.{arith}
@@ -10,18 +10,17 @@ use lib.Dec.{ltb, leb}
 use lib.ListN.{length, getD, take, drop, length-drop}
 use lib.Seq.{getD-drop}
 use Rattle.spec.specs.Bytes.{any}
-use Rattle.spec.specs.Status.{ok, refuseIf}
+use Rattle.spec.specs.Status.{ok, Test, _when_, firstOf, onOk}
 use Rattle.spec.specs.Name.{Name, validPrefix}
 use Rattle.spec.specs.Slots.{firstIndex}
 use Rattle.spec.specs.Area.{kvFormat, slotHolder, slotCount, slots}
-use Rattle.spec.specs.Calls.{areasSized, guarded, nameHasPrefix, slotHasPrefix, nextMatch, iteratorStatus, Iterated, storeIteratorNext}
-use Rattle.spec.specs.Facts.{Match, Iterable, IteratorExact}
-use Rattle.spec.proofs.Split.{split, clash, both, not-false-is}
+use Rattle.spec.specs.Calls.{areas, nameHasPrefix, slotHasPrefix, nextMatch, iteratorTests, storeIteratorNext}
+use Rattle.spec.specs.Demand2.{done, Match, Iterable, IteratorExact}
+use Rattle.spec.proofs.Split.{split, clash, not-false-is}
 use Rattle.spec.proofs.Bytes.{bytesEq-eq, eq-bytesEq}
 use Rattle.spec.proofs.Chunks.{length-chunks}
 use Rattle.spec.proofs.First.{any-first, any-at, first-passes, first-lowest}
-use Rattle.spec.proofs.Status.{passed, guard-passed, on-ok}
-use Rattle.spec.proofs.Get.{undamaged-of}
+use Rattle.spec.proofs.World.{accepted, acceptable}
 
 -- ---- the test of a slot
 
@@ -105,23 +104,25 @@ module _ (kv prefix : List ℕ) (start : ℕ) where
         clash (test (getD all i [])) (name-prefix prefix (slotHolder kvFormat (getD all i [])) name (m .held) (m .prefixed)) (below match-ahead i l (ltb-true i (start + ahead) f)))
         (λ f. let q = ltb-false i (start + ahead) f in omega arith))
 
-iterated-eq : {r : Iterated} {status nameLen nextSlot : ℕ} {nameBuf : List ℕ} → r .status ≡ status → r .nameLen ≡ nameLen → r .nextSlot ≡ nextSlot → r .nameBuf ≡ nameBuf
-    → r ≡ record { status = status; nameLen = nameLen; nextSlot = nextSlot; nameBuf = nameBuf }
-iterated-eq p q r s = λ i. record { status = p i; nameLen = q i; nextSlot = r i; nameBuf = s i }
-
 module _ (kv rbp prefix : List ℕ) (start : ℕ) (nameBuf : List ℕ) where
-  iterable : iteratorStatus kv rbp prefix start nameBuf ≡ ok → Iterable kv rbp prefix start nameBuf
-  unfolding iteratorStatus nextMatch
+  abbrev early : List Test
+  early = (1 when not (leb 64 (length nameBuf))) ∷ []
+
+  abbrev tests : List Test
+  tests = (3 when not (validPrefix prefix)) ∷ (6 when not (ltb (nextMatch kv prefix start) (length (slots kvFormat kv)))) ∷ []
+
+  abbrev pub iteratorStatus : ℕ
+  iteratorStatus = firstOf (iteratorTests kv rbp prefix start nameBuf)
+
+  iterable : iteratorStatus ≡ ok → Iterable kv rbp prefix start nameBuf
+  unfolding nextMatch
   iterable h =
-      let g = guard-passed _ _ _ h in
-      let l = both (areasSized kv rbp) (leb 64 (length nameBuf)) (g .0) in
-      let p = passed _ 3 _ (omega arith) (g .2) in
-      let n = passed _ 6 _ (omega arith) (p .1) in
-      let m = a-match kv prefix start (ltb-true _ _ (not-false-is _ (n .0))) in
+      let a = accepted (areas kv rbp) early tests refl h in
+      let m = a-match kv prefix start (ltb-true _ _ (not-false-is _ (a .rest .1 .0))) in
       record {
-        undamaged = undamaged-of kv rbp (l .0) (g .1);
-        buf-sized = leb-true 64 (length nameBuf) (l .1);
-        prefix-valid = not-false-is (validPrefix prefix) (p .0);
+        undamaged = a .undamaged;
+        buf-sized = leb-true 64 (length nameBuf) (not-false-is _ (a .lengths .0));
+        prefix-valid = not-false-is (validPrefix prefix) (a .rest .0);
         i = nextMatch kv prefix start;
         name = m .0;
         found = m .1;
@@ -132,30 +133,24 @@ module _ (kv rbp prefix : List ℕ) (start : ℕ) (nameBuf : List ℕ) where
     unfolding nextMatch
     next-is = match-is kv prefix start (h .i) (h .name) (h .found)
 
-    iterable-ok : iteratorStatus kv rbp prefix start nameBuf ≡ ok
-    unfolding iteratorStatus guarded refuseIf
+    iterable-ok : iteratorStatus ≡ ok
     iterable-ok =
         let r = h .found .in-range in
         let c = count-is kv prefix start in
-        rw (
-          h .undamaged .kv-sized,
-          h .undamaged .rbp-sized,
-          h .undamaged .kv-intact,
-          h .undamaged .rbp-intact,
-          le-leb 64 (length nameBuf) (h .buf-sized),
-          h .prefix-valid,
-          next-is,
-          lt-ltb (h .i) (length (slots kvFormat kv)) (omega arith),
-        )
+        acceptable (areas kv rbp) early tests (record {
+          undamaged = h .undamaged;
+          lengths = (rw (le-leb 64 (length nameBuf) (h .buf-sized)), tt);
+          rest = (rw (h .prefix-valid), (rw (next-is, lt-ltb (h .i) (length (slots kvFormat kv)) (omega arith)), tt));
+        })
 
     iterated : storeIteratorNext kv rbp prefix start nameBuf
-        ≡ record { status = ok; nameLen = length (h .name); nextSlot = suc (h .i); nameBuf = h .name ++ drop (length (h .name)) nameBuf }
-    unfolding storeIteratorNext
-    iterated = iterated-eq iterable-ok (on-ok _ _ 0 iterable-ok ∙ rw (next-is, h .found .held)) (on-ok _ _ 0 iterable-ok ∙ rw next-is) (on-ok _ _ nameBuf iterable-ok ∙ rw (next-is, h .found .held))
+        ≡ done (areas kv rbp) (length (h .name) ∷ suc (h .i) ∷ []) (h .name ++ drop (length (h .name)) nameBuf)
+    unfolding storeIteratorNext onOk
+    iterated = rw (iterable-ok, next-is, h .found .held)
 
 pub iterator-exact : IteratorExact
 unfolding storeIteratorNext
-iterator-exact = record {
-  condition = λ kv rbp prefix start nameBuf. (iterable kv rbp prefix start nameBuf, iterable-ok kv rbp prefix start nameBuf);
-  gives = λ kv rbp prefix start nameBuf h. iterated kv rbp prefix start nameBuf h;
+iterator-exact kv rbp prefix start nameBuf = record {
+  condition = (iterable kv rbp prefix start nameBuf, iterable-ok kv rbp prefix start nameBuf);
+  gives = iterated kv rbp prefix start nameBuf;
 }

@@ -10,7 +10,7 @@ use lib.ListN.{length, length-append}
 use lib.Seq.{take-at, drop-at, take-length}
 use Rattle.cipher.proofs.Theorems.{twice, lengths}
 use Rattle.spec.specs.Bytes.{allZero}
-use Rattle.spec.specs.Record.{requireConfidentiality, requireIntegrity, requireReplayProtection, validFlags, maxDataSize, metadata, metadataSizeOf, revisionOf, dataSizeOf, flagsOf, ivOf, metadataOf, storedDataOf, tagOf, recordValid, encKey, crypt, recordCmac, sealedIv, sealedData, sealedTag, sealRecord, macOk, plaintext, Sealable}
+use Rattle.spec.specs.Record.{requireConfidentiality, requireIntegrity, requireReplayProtection, validFlags, maxDataSize, metadata, metadataSizeOf, revisionOf, dataSizeOf, flagsOf, ivOf, metadataOf, storedDataOf, tagOf, wellFormed, encKey, crypt, recordCmac, sealedIv, sealedData, sealedTag, sealRecord, macOk, plaintext, Sealable}
 use Rattle.spec.proofs.Split.{split, both}
 use Rattle.spec.proofs.Bytes.{bytesEq-refl, le-value}
 
@@ -19,16 +19,16 @@ unfolding validFlags
 valid-flags-small flags h = ltb-true flags 16 (both (ltb flags 16) (not (requireReplayProtection flags) || requireIntegrity flags) h .0)
 
 -- what a valid record says of itself
-pub record ValidRecord (revision : ℕ) (r : List ℕ) : Type 0 where
+pub record ValidRecord (r : List ℕ) : Type 0 where
   pub metadata-size : metadataSizeOf r ≡ 20
-  pub of-revision : revisionOf r ≡ revision
+  pub of-revision : revisionOf r ≡ 1
   pub flags : validFlags (flagsOf r) ≡ true
   pub data-size : dataSizeOf r ≤ maxDataSize
   pub record-length : length r ≡ dataSizeOf r + 36
 
-pub valid-record : (revision : ℕ) (r : List ℕ) → recordValid revision r ≡ true → ValidRecord revision r
-unfolding recordValid
-valid-record revision r h =
+pub valid-record : (r : List ℕ) → wellFormed r ≡ true → ValidRecord r
+unfolding wellFormed
+valid-record r h =
     let a = both _ _ h in
     let b = both _ _ (a .1) in
     let c = both _ _ (b .1) in
@@ -36,7 +36,7 @@ valid-record revision r h =
     let e = both _ _ (d .1) in
     record {
       metadata-size = eqb-true (metadataSizeOf r) 20 (a .0);
-      of-revision = eqb-true (revisionOf r) revision (b .0);
+      of-revision = eqb-true (revisionOf r) 1 (b .0);
       flags = c .0;
       data-size = leb-true (dataSizeOf r) maxDataSize (d .0);
       record-length = eqb-true (length r) (dataSizeOf r + 36) (e .0);
@@ -54,9 +54,9 @@ pub recordCmac-length : (key name meta stored : List ℕ) → length (recordCmac
 unfolding recordCmac
 recordCmac-length key name meta stored = lengths .of-tag _ _
 
-module _ (revision : ℕ) (key name : List ℕ) (flags : ℕ) (iv value : List ℕ) (ready : Sealable revision flags iv value) where
+module _ (key name : List ℕ) (flags : ℕ) (iv value : List ℕ) (ready : Sealable flags iv value) where
   abbrev meta : List ℕ
-  meta = metadata revision (length value) flags (sealedIv flags iv)
+  meta = metadata (length value) flags (sealedIv flags iv)
 
   abbrev stored : List ℕ
   stored = sealedData key name flags iv value
@@ -65,7 +65,7 @@ module _ (revision : ℕ) (key name : List ℕ) (flags : ℕ) (iv value : List �
   tag = sealedTag key name flags meta stored
 
   abbrev r : List ℕ
-  r = sealRecord revision key name flags iv value
+  r = sealRecord key name flags iv value
 
   iv-length : length (sealedIv flags iv) ≡ 8
   unfolding sealedIv
@@ -101,9 +101,9 @@ module _ (revision : ℕ) (key name : List ℕ) (flags : ℕ) (iv value : List �
   unfolding sealRecord metadata
   sealed-size = refl
 
-  sealed-revision : revisionOf r ≡ revision
+  sealed-revision : revisionOf r ≡ 1
   unfolding sealRecord metadata
-  sealed-revision = le-value 2 revision (omega arith)
+  sealed-revision = refl
 
   pub sealed-data-size : dataSizeOf r ≡ length value
   unfolding sealRecord metadata
@@ -142,8 +142,8 @@ module _ (revision : ℕ) (key name : List ℕ) (flags : ℕ) (iv value : List �
   unfolding sealedTag
   tag-zero = split (requireIntegrity flags) (λ e. rw e) (λ e. rw e)
 
-  pub sealed-valid : recordValid revision r ≡ true
-  unfolding recordValid
+  pub sealed-valid : wellFormed r ≡ true
+  unfolding wellFormed
   sealed-valid =
       rw (
         sealed-tag,
@@ -153,7 +153,6 @@ module _ (revision : ℕ) (key name : List ℕ) (flags : ℕ) (iv value : List �
         sealed-flags,
         sealed-data-size,
         sealed-length,
-        eq-eqb revision revision refl,
         ready .flags-valid,
         le-leb (length value) maxDataSize (ready .value-sized),
         eq-eqb (length value + 36) (length value + 36) refl,

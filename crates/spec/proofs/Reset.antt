@@ -1,27 +1,25 @@
 -- The exact condition for a reset's 0, and what it gives.
-use mathlib.Core.Path.{_≡_}
+use mathlib.Core.Path.{_≡_, refl}
 use mathlib.Core.Bool.{true}
-use mathlib.Core.List.{List}
+use mathlib.Core.List.{List, []}
 use Prim.Native.Nat.{ℕ}
-use native.Mathlib.Omega.{arith}
 use lib.ListN.{length}
 use Rattle.spec.specs.Bytes.{zeros}
 use Rattle.spec.specs.Status.{ok, refuseIf, onOk}
 use Rattle.spec.specs.Area.{kvFormat, rbpFormat, sized}
-use Rattle.spec.specs.Calls.{areasSized, storeReset}
-use Rattle.spec.specs.Facts.{AreasSized, ResetExact}
-use Rattle.spec.proofs.Split.{both, not-false-is}
-use Rattle.spec.proofs.Status.{passed}
+use Rattle.spec.specs.Calls.{areas, areaLengths, storeReset}
+use Rattle.spec.specs.Demand2.{done, ResetExact}
+use Rattle.spec.proofs.Split.{not-false-is}
+use Rattle.spec.proofs.Status.{all-passed}
 
-resettable : (kv rbp : List ℕ) → storeReset kv rbp .status ≡ ok → AreasSized kv rbp
+resettable : (kv rbp : List ℕ) → storeReset kv rbp .answer .status ≡ ok → (sized kvFormat kv ≡ true) × (sized rbpFormat rbp ≡ true)
 unfolding storeReset
-resettable kv rbp h =
-    let s = both (sized kvFormat kv) (sized rbpFormat rbp) (not-false-is (areasSized kv rbp) (passed _ 1 _ (omega arith) h .0)) in
-    record { kv-sized = s .0; rbp-sized = s .1 }
+resettable kv rbp h = let p = all-passed (areaLengths (areas kv rbp)) refl h in (not-false-is _ (p .0), not-false-is _ (p .1 .0))
 
-cleared : (kv rbp : List ℕ) → AreasSized kv rbp → storeReset kv rbp ≡ record { status = ok; kv = zeros (length kv); rbp = zeros (length rbp) }
+cleared : (kv rbp : List ℕ) → (sized kvFormat kv ≡ true) × (sized rbpFormat rbp ≡ true)
+    → storeReset kv rbp ≡ done (areas (zeros (length kv)) (zeros (length rbp))) [] []
 unfolding storeReset refuseIf onOk
-cleared kv rbp s = rw (s .kv-sized, s .rbp-sized)
+cleared kv rbp s = rw (s .0, s .1)
 
 pub reset-exact : ResetExact
-reset-exact = record { condition = λ kv rbp. (resettable kv rbp, λ s. rw (cleared kv rbp s)); gives = cleared }
+reset-exact kv rbp = record { condition = (resettable kv rbp, λ s. rw (cleared kv rbp s)); gives = cleared kv rbp }

@@ -1,37 +1,40 @@
 -- Demand 2, the exact condition for a set's 0, the round trip, and what an accepted set stores.
 use mathlib.Core.Path.{_≡_, refl, _∙_}
-use mathlib.Core.Bool.{true, false, cond, not, _&&_, _||_}
-use mathlib.Core.List.{List, [], _++_, append-nil}
+use mathlib.Core.Bool.{true, false, cond, not, _||_}
+use mathlib.Core.List.{List, [], _∷_, _++_, append-nil}
 use Prim.Native.Nat.{ℕ, _-_, _≤_, _<_, zero-le, min}
 use native.Mathlib.Omega.{arith}
 use borrow.Author.Tests.{eqb-true, eq-eqb, lt-ltb}
 use lib.Dec.{ltb}
 use lib.ListN.{length, drop}
 use lib.Seq.{take-length}
-use Rattle.spec.specs.Status.{ok, refuseIf}
-use Rattle.spec.specs.Record.{requireIntegrity, requireReplayProtection, validFlags, revision1, metadata, dataSizeOf, tagOf, encKey, authKey, crypt, recordCmac, sealedIv, sealedData, sealedTag, sealRecord, plaintext, Sealable}
+use Rattle.spec.specs.Status.{ok, Test, _when_}
+use Rattle.spec.specs.Record.{requireIntegrity, requireReplayProtection, validFlags, metadata, dataSizeOf, tagOf}
+use Rattle.spec.specs.Record.{encKey, authKey, crypt, recordCmac, sealedIv, sealedData, sealedTag, sealRecord, plaintext, Sealable}
 use Rattle.spec.specs.Slots.{firstIndex}
 use Rattle.spec.specs.Area.{Format, kvFormat, rbpFormat, slotFree, slotHolder, makeSlot, slotCount, slots, hasSpace, target, insertSlot, keep, write, editArea}
-use Rattle.spec.specs.Binding.{setEffect}
-use Rattle.spec.specs.Calls.{Got, keySized, ivSized, areasSized, guarded, bindingOf, setStatus, storeSet, storeGet}
-use Rattle.spec.specs.Demands.{Readable, FreeSlot, Settable, SetExact, RoundTrip, metadataBytes, storedBytes, tagBytes, slotBytes, rbpSlotBytes, Stored, Stores, SetStores}
-use Rattle.spec.proofs.Split.{split, both}
+use Rattle.spec.specs.Layout.{placeBytes, entryBytes}
+use Rattle.spec.specs.Request.{statusOf}
+use Rattle.spec.specs.Decisions.{keySized, ivSized, setHeld, setTests, setEffect, setRequest}
+use Rattle.spec.specs.Calls.{areas, bindingOf, roomOf, storeWorld, storeSet, storeGet}
+use Rattle.spec.specs.Demand2.{done, Readable, FreeSlot, Settable, SetExact, RoundTrip, recordMade, tagMade, Placed, Stored, Stores}
+use Rattle.spec.proofs.Split.{split, both, not-false-is}
 use Rattle.spec.proofs.Slots.{held-at}
 use Rattle.spec.proofs.Chunks.{length-chunks}
-use Rattle.spec.proofs.Slot.{kv-laws, rbp-laws}
-use Rattle.spec.proofs.Area.{Sound, sized-length, Good, HasRoom, target-any, insert-sound, lookup-insert}
-use Rattle.spec.proofs.Decision.{Decided, decided, decided-sealable, decided-ok, sealed-kv-good, sealed-rbp-good}
+use Rattle.spec.proofs.Slot.{FormatLaws, kv-laws, rbp-laws}
+use Rattle.spec.proofs.Area.{Sound, sized-length, Good, HasRoom, target-any, insert-sound, slot-insert, slot-insert-other, lookup-insert}
 use Rattle.spec.proofs.First.{first-in-range, any-at, first-passes, first-lowest, splice}
-use Rattle.spec.proofs.Record.{valid-flags-small, sealed-length, sealed-data-size, sealed-flags, sealed-tag, sealed-tag-length, sealed-valid, sealed-mac, sealed-plaintext}
-use Rattle.spec.proofs.Status.{guard-passed, on-ok}
-use Rattle.spec.proofs.Get.{undamaged-of, mac-eq, get-exact, given-status}
+use Rattle.spec.proofs.Record.{valid-flags-small, sealed-data-size, sealed-flags, sealed-tag, sealed-tag-length, sealed-valid, sealed-mac, sealed-plaintext}
+use Rattle.spec.proofs.World.{run-done, accepted, acceptable}
+use Rattle.spec.proofs.Decision.{Decided, decided, decided-sealable, decided-passed, sealed-kv-good, sealed-rbp-good}
+use Rattle.spec.proofs.Get.{mac-eq, get-exact}
 
--- ---- an insert, in bytes
+-- ---- an insert: what the area then holds, and where
 
-module _ (F : Format) (area n p : List ℕ) (s : Sound F area) (h : HasRoom F area n) where
-  stored-in : Stored F area n (makeSlot F n p) (insertSlot F area n p)
+module _ (F : Format) (L : FormatLaws F) (area n p : List ℕ) (s : Sound F area) (g : Good F n p) (h : HasRoom F area n) where
+  placed : Placed F area n (makeSlot F n p) (insertSlot F area n p)
   unfolding insertSlot
-  stored-in =
+  placed =
       let t = target-any F area n h in
       record {
         i = firstIndex (target F area n) (slots F area);
@@ -42,125 +45,131 @@ module _ (F : Format) (area n p : List ℕ) (s : Sound F area) (h : HasRoom F ar
         bytes = splice F (target F area n) (makeSlot F n p) area (sized-length F area (s .size)) t;
       }
 
-got-eq : {g : Got} {status count : ℕ} {output : List ℕ} → g .status ≡ status → g .count ≡ count → g .output ≡ output
-    → g ≡ record { status = status; count = count; output = output }
-got-eq p q r = λ i. record { status = p i; count = q i; output = r i }
+  stored-in : Stored F area n (makeSlot F n p) (insertSlot F area n p)
+  stored-in = (record { own = slot-insert F L area n p s g h; others = slot-insert-other F L area n p s g }, placed)
 
-module _ (kv rbp key name : List ℕ) (flags : ℕ) (iv value : List ℕ) (h : setStatus kv rbp key name flags iv value ≡ ok) where
+module _ (kv rbp key name : List ℕ) (flags : ℕ) (iv value : List ℕ) where
+  abbrev early : List Test
+  early = (1 when not (keySized key)) ∷ (1 when not (ivSized iv)) ∷ []
+
+  abbrev tests : List Test
+  tests = setTests requireReplayProtection name flags value (bindingOf kv rbp name) (roomOf kv rbp)
+
+  abbrev pub setStatus : ℕ
+  setStatus = statusOf storeWorld (areas kv rbp) (setRequest requireReplayProtection key name flags iv value)
+
   abbrev sealed : List ℕ
-  sealed = sealRecord revision1 key name flags iv value
+  sealed = sealRecord key name flags iv value
 
-  record Accepted : Type 0 where
-    kv-sound : Sound kvFormat kv
-    rbp-sound : Sound rbpFormat rbp
-    key-sized : length key ≡ 16
-    iv-sized : length iv ≡ 8
-    choice : Decided name flags value (bindingOf kv rbp name) (hasSpace kvFormat kv) (hasSpace rbpFormat rbp)
+  pub record Ready : Type 0 where
+    pub kv-sound : Sound kvFormat kv
+    pub rbp-sound : Sound rbpFormat rbp
+    pub key-sized : length key ≡ 16
+    pub iv-sized : length iv ≡ 8
+    pub choice : Decided requireReplayProtection name flags value (bindingOf kv rbp name) (roomOf kv rbp)
+    pub sealable : Sealable flags iv value
 
-  accepted : Accepted
-  unfolding setStatus
-  accepted =
-      let g = guard-passed _ _ _ h in
-      let l = both (areasSized kv rbp) (keySized key && ivSized iv) (g .0) in
-      let m = both (keySized key) (ivSized iv) (l .1) in
-      let u = undamaged-of kv rbp (l .0) (g .1) in
+  pub ready-of : setStatus ≡ ok → Ready
+  unfolding setHeld
+  ready-of h =
+      let a = accepted (areas kv rbp) early tests refl h in
+      let u = a .undamaged in
+      let i = eqb-true (length iv) 8 (not-false-is _ (a .lengths .1 .0)) in
+      let d = decided requireReplayProtection name flags value (bindingOf kv rbp name) (roomOf kv rbp) (a .rest) in
       record {
         kv-sound = record { size = u .kv-sized; good = u .kv-intact };
         rbp-sound = record { size = u .rbp-sized; good = u .rbp-intact };
-        key-sized = eqb-true (length key) 16 (m .0);
-        iv-sized = eqb-true (length iv) 8 (m .1);
-        choice = decided name flags value _ _ _ (g .2);
+        key-sized = eqb-true (length key) 16 (not-false-is _ (a .lengths .0));
+        iv-sized = i;
+        choice = d;
+        sealable = decided-sealable requireReplayProtection name flags value _ _ iv d i;
       }
 
-  ready : Sealable revision1 flags iv value
-  ready = decided-sealable name flags iv value _ _ _ (accepted .choice) (accepted .iv-sized)
+  module _ (h : setStatus ≡ ok) where
+    abbrev a : Ready
+    a = ready-of h
 
-  kv-good : Good kvFormat name sealed
-  kv-good = sealed-kv-good key name flags iv value (accepted .choice .name-valid) ready
+    kv-good : Good kvFormat name sealed
+    kv-good = sealed-kv-good key name flags iv value (a .choice .name-valid) (a .sealable)
 
-  rbp-good : Good rbpFormat name (tagOf sealed)
-  rbp-good = sealed-rbp-good key name flags iv value (accepted .choice .name-valid) ready
+    rbp-good : Good rbpFormat name (tagOf sealed)
+    rbp-good = sealed-rbp-good key name flags iv value (a .choice .name-valid) (a .sealable)
 
-  -- the areas after it
-  kv-after : storeSet kv rbp key name flags iv value .kv ≡ insertSlot kvFormat kv name sealed
-  unfolding storeSet setEffect
-  kv-after = on-ok _ _ kv h
+    -- the areas after it
+    set-done : storeSet kv rbp key name flags iv value
+        ≡ done (areas (insertSlot kvFormat kv name sealed) (editArea rbpFormat rbp name (cond (requireReplayProtection flags) (write (tagOf sealed)) keep))) [] []
+    unfolding storeSet setEffect
+    set-done = run-done storeWorld (areas kv rbp) (setRequest requireReplayProtection key name flags iv value) h
 
-  rbp-after : storeSet kv rbp key name flags iv value .rbp ≡ editArea rbpFormat rbp name (cond (requireReplayProtection flags) (write (tagOf sealed)) keep)
-  unfolding storeSet setEffect
-  rbp-after = on-ok _ _ rbp h
+    kv-after : storeSet kv rbp key name flags iv value .after .kv ≡ insertSlot kvFormat kv name sealed
+    kv-after = rw set-done
 
-  rbp-written : requireReplayProtection flags ≡ true → storeSet kv rbp key name flags iv value .rbp ≡ insertSlot rbpFormat rbp name (tagOf sealed)
-  rbp-written e = rbp-after ∙ rw e
+    rbp-written : requireReplayProtection flags ≡ true → storeSet kv rbp key name flags iv value .after .rbp ≡ insertSlot rbpFormat rbp name (tagOf sealed)
+    rbp-written e = rw (set-done, e)
 
-  rbp-unchanged : requireReplayProtection flags ≡ false → storeSet kv rbp key name flags iv value .rbp ≡ rbp
-  rbp-unchanged e = rbp-after ∙ rw e
+    rbp-unchanged : requireReplayProtection flags ≡ false → storeSet kv rbp key name flags iv value .after .rbp ≡ rbp
+    rbp-unchanged e = rw (set-done, e)
 
-  rbp-sound-after : Sound rbpFormat (storeSet kv rbp key name flags iv value .rbp)
-  rbp-sound-after = split (requireReplayProtection flags)
-      (λ e. rw (rbp-written e) (insert-sound rbpFormat rbp-laws rbp name (tagOf sealed) (accepted .rbp-sound) rbp-good))
-      (λ e. rw (rbp-unchanged e) (accepted .rbp-sound))
+    rbp-sound-after : Sound rbpFormat (storeSet kv rbp key name flags iv value .after .rbp)
+    rbp-sound-after = split (requireReplayProtection flags)
+        (λ e. rw (rbp-written e) (insert-sound rbpFormat rbp-laws rbp name (tagOf sealed) (a .rbp-sound) rbp-good))
+        (λ e. rw (rbp-unchanged e) (a .rbp-sound))
 
-  -- ---- the round trip
+    -- ---- the round trip
 
-  readable : Readable (storeSet kv rbp key name flags iv value .kv) (storeSet kv rbp key name flags iv value .rbp) key name 0
-  readable =
-      let a = accepted in
-      let f = sealed-flags revision1 key name flags iv value ready in
-      let s = insert-sound kvFormat kv-laws kv name sealed (a .kv-sound) kv-good in
-      record {
-        undamaged = record { kv-sized = rw kv-after (s .size); rbp-sized = rbp-sound-after .size; kv-intact = rw kv-after (s .good); rbp-intact = rbp-sound-after .good };
-        key-sized = a .key-sized;
-        name-valid = a .choice .name-valid;
-        r = sealed;
-        found = rw kv-after (lookup-insert kvFormat kv-laws kv name sealed (a .kv-sound) kv-good (a .choice .kv-room));
-        valid = sealed-valid revision1 key name flags iv value ready;
-        authentic = λ e. mac-eq key name sealed (sealed-mac revision1 key name flags iv value ready (rw f at e));
-        fresh = λ e. rw (rbp-written (rw f at e)) (lookup-insert rbpFormat rbp-laws rbp name (tagOf sealed) (a .rbp-sound) rbp-good (a .choice .rbp-room (rw f at e)));
-        in-range = zero-le;
-      }
+    readable : Readable (storeSet kv rbp key name flags iv value .after .kv) (storeSet kv rbp key name flags iv value .after .rbp) key name 0
+    readable =
+        let f = sealed-flags key name flags iv value (a .sealable) in
+        let s = insert-sound kvFormat kv-laws kv name sealed (a .kv-sound) kv-good in
+        record {
+          undamaged = record { kv-sized = rw kv-after (s .size); rbp-sized = rbp-sound-after .size; kv-intact = rw kv-after (s .good); rbp-intact = rbp-sound-after .good };
+          key-sized = a .key-sized;
+          name-valid = a .choice .name-valid;
+          r = sealed;
+          found = rw kv-after (lookup-insert kvFormat kv-laws kv name sealed (a .kv-sound) kv-good (a .choice .kv-room));
+          valid = sealed-valid key name flags iv value (a .sealable);
+          authentic = λ e. mac-eq key name sealed (sealed-mac key name flags iv value (a .sealable) (rw f at e));
+          fresh = λ e. rw (rbp-written (rw f at e))
+              (lookup-insert rbpFormat rbp-laws rbp name (tagOf sealed) (a .rbp-sound) rbp-good (a .choice .rbp-room (rw f at e)));
+          in-range = zero-le;
+        }
 
-  read-back : (output : List ℕ) → length value ≤ length output
-      → storeGet (storeSet kv rbp key name flags iv value .kv) (storeSet kv rbp key name flags iv value .rbp) key name 0 output
-      ≡ record { status = ok; count = length value; output = value ++ drop (length value) output }
-  unfolding plaintext crypt encKey readable
-  read-back output k =
-      let d = sealed-data-size revision1 key name flags iv value ready in
-      let p = sealed-plaintext revision1 key name flags iv value ready in
-      let g = get-exact .gives _ _ key name 0 output readable in
-      let c : min (length output) (dataSizeOf sealed - 0) ≡ length value = rw d (omega arith) in
-      let n = g .count ∙ c in
-      got-eq (given-status _ _ key name 0 output readable) n (g .bytes ∙ rw (n, p, take-length value))
+    pub read-back : (output : List ℕ) → length value ≤ length output → let o = storeSet kv rbp key name flags iv value in
+        storeGet (o .after .kv) (o .after .rbp) key name 0 output ≡ done (o .after) (length value ∷ []) (value ++ drop (length value) output)
+    unfolding plaintext crypt encKey readable
+    read-back output k =
+        let d = sealed-data-size key name flags iv value (a .sealable) in
+        let p = sealed-plaintext key name flags iv value (a .sealable) in
+        let c : min (length output) (dataSizeOf sealed - 0) ≡ length value = rw d (omega arith) in
+        get-exact _ _ key name 0 output .gives readable ∙ rw (c, p, take-length value)
 
-  -- ---- what is stored, byte for byte
+    -- ---- what is stored, byte for byte
 
-  sealed-bytes : sealed ≡ metadataBytes flags iv value ++ (storedBytes key name flags iv value ++ tagBytes key name flags iv value)
-  unfolding sealRecord metadata sealedIv sealedData sealedTag recordCmac authKey crypt encKey
-  sealed-bytes = refl
+    sealed-bytes : sealed ≡ recordMade key name flags iv value
+    unfolding sealRecord metadata sealedIv sealedData sealedTag recordCmac authKey crypt encKey
+    sealed-bytes = refl
 
-  slot-bytes : makeSlot kvFormat name sealed ≡ slotBytes key name flags iv value
-  unfolding makeSlot
-  slot-bytes =
-      rw (sealed-length revision1 key name flags iv value ready, sealed-bytes)
+    slot-bytes : makeSlot kvFormat name sealed ≡ placeBytes name (recordMade key name flags iv value)
+    unfolding makeSlot
+    slot-bytes = rw sealed-bytes
 
-  tag-bytes : tagOf sealed ≡ tagBytes key name flags iv value
-  unfolding metadata sealedIv sealedData sealedTag recordCmac authKey crypt encKey
-  tag-bytes = sealed-tag revision1 key name flags iv value ready
+    tag-bytes : tagOf sealed ≡ tagMade key name flags iv value
+    unfolding metadata sealedIv sealedData sealedTag recordCmac authKey crypt encKey
+    tag-bytes = sealed-tag key name flags iv value (a .sealable)
 
-  rbp-slot-bytes : makeSlot rbpFormat name (tagOf sealed) ≡ rbpSlotBytes key name flags iv value
-  unfolding makeSlot
-  rbp-slot-bytes =
-      let z = sealed-tag-length revision1 key name flags iv value ready in
-      rw (z, append-nil (tagOf sealed), tag-bytes)
+    rbp-slot-bytes : makeSlot rbpFormat name (tagOf sealed) ≡ entryBytes name (tagMade key name flags iv value)
+    unfolding makeSlot
+    rbp-slot-bytes =
+        let z = sealed-tag-length key name flags iv value (a .sealable) in
+        rw (z, append-nil (tagOf sealed), tag-bytes)
 
-  stores : Stores kv rbp key name flags iv value (storeSet kv rbp key name flags iv value)
-  stores =
-      let a = accepted in
-      record {
-        slot = rw (kv-after, ← slot-bytes) (stored-in kvFormat kv name sealed (a .kv-sound) (a .choice .kv-room));
-        rbp-slot = λ e. rw (rbp-written e, ← rbp-slot-bytes) (stored-in rbpFormat rbp name (tagOf sealed) (a .rbp-sound) (a .choice .rbp-room e));
-        rbp-kept = rbp-unchanged;
-      }
+    pub stores : Stores kv rbp key name flags iv value (storeSet kv rbp key name flags iv value)
+    stores = record {
+      answer = rw set-done;
+      slot = rw (kv-after, ← slot-bytes) (stored-in kvFormat kv-laws kv name sealed (a .kv-sound) kv-good (a .choice .kv-room));
+      rbp-slot = λ e. rw (rbp-written e, ← rbp-slot-bytes) (stored-in rbpFormat rbp-laws rbp name (tagOf sealed) (a .rbp-sound) rbp-good (a .choice .rbp-room e));
+      rbp-kept = rbp-unchanged;
+    }
 
 -- ---- the exact condition
 
@@ -186,7 +195,7 @@ flags-join flags s w = rw (lt-ltb flags 16 s) (split (requireReplayProtection fl
 
 settable : (kv rbp key name : List ℕ) (flags : ℕ) (iv value : List ℕ) → setStatus kv rbp key name flags iv value ≡ ok → Settable kv rbp key name flags iv value
 settable kv rbp key name flags iv value h =
-    let a = accepted kv rbp key name flags iv value h in
+    let a = ready-of kv rbp key name flags iv value h in
     let d = a .choice in
     record {
       undamaged = record { kv-sized = a .kv-sound .size; rbp-sized = a .rbp-sound .size; kv-intact = a .kv-sound .good; rbp-intact = a .rbp-sound .good };
@@ -196,34 +205,35 @@ settable kv rbp key name flags iv value h =
       flags-known = valid-flags-small flags (d .flags-valid);
       flags-whole = flags-split flags (d .flags-valid);
       value-sized = d .value-sized;
-      known = d .held .known;
-      new = d .held .new;
+      known = d .known;
+      new = d .new;
       kv-room = λ e. free-slot kvFormat kv (d .kv-room e);
       rbp-room = λ f e. free-slot rbpFormat rbp (d .rbp-room f e);
     }
 
 settable-ok : (kv rbp key name : List ℕ) (flags : ℕ) (iv value : List ℕ) → Settable kv rbp key name flags iv value → setStatus kv rbp key name flags iv value ≡ ok
-unfolding setStatus guarded refuseIf
 settable-ok kv rbp key name flags iv value h =
-    let d : Decided name flags value (bindingOf kv rbp name) (hasSpace kvFormat kv) (hasSpace rbpFormat rbp) = record {
-      name-valid = h .name-valid;
-      flags-valid = flags-join flags (h .flags-known) (h .flags-whole);
-      value-sized = h .value-sized;
-      held = record { known = h .known; new = h .new };
-      kv-room = λ e. has-space kvFormat kv (h .kv-room e);
-      rbp-room = λ f e. has-space rbpFormat rbp (h .rbp-room f e);
-    } in
-    rw (h .undamaged .kv-sized, h .undamaged .rbp-sized, eq-eqb (length key) 16 (h .key-sized), eq-eqb (length iv) 8 (h .iv-sized), h .undamaged .kv-intact, h .undamaged .rbp-intact)
-    (decided-ok name flags value _ _ _ d)
+    acceptable (areas kv rbp) (early kv rbp key name flags iv value) (tests kv rbp key name flags iv value) (record {
+      undamaged = h .undamaged;
+      lengths = (rw (eq-eqb (length key) 16 (h .key-sized)), (rw (eq-eqb (length iv) 8 (h .iv-sized)), tt));
+      rest = decided-passed requireReplayProtection name flags value (bindingOf kv rbp name) (roomOf kv rbp) (record {
+        name-valid = h .name-valid;
+        flags-valid = flags-join flags (h .flags-known) (h .flags-whole);
+        value-sized = h .value-sized;
+        known = h .known;
+        new = h .new;
+        kv-room = λ e. has-space kvFormat kv (h .kv-room e);
+        rbp-room = λ f e. has-space rbpFormat rbp (h .rbp-room f e);
+      });
+    })
 
 pub set-exact : SetExact
 unfolding storeSet
-set-exact kv rbp key name flags iv value = (settable kv rbp key name flags iv value, settable-ok kv rbp key name flags iv value)
+set-exact kv rbp key name flags iv value = record {
+  condition = (settable kv rbp key name flags iv value, settable-ok kv rbp key name flags iv value);
+  gives = λ h. stores kv rbp key name flags iv value (settable-ok kv rbp key name flags iv value h);
+}
 
 pub round-trip : RoundTrip
 unfolding storeSet
 round-trip kv rbp key name flags iv value output h k = read-back kv rbp key name flags iv value h output k
-
-pub set-stores : SetStores
-unfolding storeSet
-set-stores kv rbp key name flags iv value h = stores kv rbp key name flags iv value h

@@ -1,9 +1,9 @@
 -- The tests of one thing, from the layout.
 use mathlib.Core.Path.{_≡_, refl, sym, ap, _∙_}
-use mathlib.Core.Logic.{inl, inr}
+use mathlib.Core.Logic.{inl, inr, _↔_}
 use mathlib.Core.Bool.{Bool, true, false, _||_}
 use mathlib.Core.List.{List, [], _∷_, _++_, append-assoc, append-nil}
-use mathlib.Core.Option.{some}
+use mathlib.Core.Option.{Option, none, some}
 use Prim.Native.Nat.{ℕ, zero, suc, _+_, _-_, _*_, _/_, _%_, _≤_, _<_}
 use native.Mathlib.Nat.{not-suc-le-zero, le-of-suc-le-suc}
 use native.Mathlib.Omega.{arith}
@@ -11,16 +11,18 @@ use borrow.Author.Tests.{eqb-true, eq-eqb, leb-true, leb-false, le-leb}
 use lib.Dec.{eqb, leb}
 use lib.ListN.{length, getD, take, drop, length-append, length-drop, take-append-drop}
 use lib.Seq.{take-at, drop-at, drop-drop, drop-cons, length-take-le}
-use Rattle.spec.specs.Bytes.{every, allZero, zeros, zeroFill, leBytes, leValue}
+use Rattle.spec.specs.Bytes.{every, isSome, allZero, zeros, zeroFill, leBytes, leValue}
 use Rattle.spec.specs.Name.{validNameByte, validName, validPrefix}
-use Rattle.spec.specs.Record.{requireConfidentiality, requireIntegrity, validFlags, revision1, metadataSizeOf, revisionOf, dataSizeOf, flagsOf, ivOf, storedDataOf, tagOf, recordValid}
+use Rattle.spec.specs.Record.{requireConfidentiality, requireIntegrity, validFlags, metadataSizeOf, revisionOf, dataSizeOf, flagsOf, ivOf, metadataOf, storedDataOf, tagOf, wellFormed}
 use Rattle.spec.specs.Area.{Format, kvFormat, rbpFormat, stateByte, nameLength, slotFree, payloadSize, slotName, slotPayload, slotUsed, slotValid, slotHolder, makeSlot, slotCount, sized}
-use Rattle.spec.specs.Shapes.{AreBytes, Printable, NameShape, PrefixShape, GoodFlags, FlagsShape, Multiple, SizedShape, WellFormed, RecordShape, UsedPlace, UsedEntry, SlotShape, FreeShape, Shapes}
-use Rattle.spec.proofs.Split.{split, clash, both}
+use Rattle.spec.specs.Layout.{metadataBytes, recordBytes}
+use Rattle.spec.specs.Shapes.{AreBytes, Printable, GoodFlags, FlagShape, Multiple, WellFormed, RecordParts, RecordShape, UsedPlace, UsedEntry, SlotShape, Shapes}
+use Rattle.spec.proofs.Split.{split, clash, clashO, both}
 use Rattle.spec.proofs.Bytes.{allZero-zeros, le-value}
 use Rattle.spec.proofs.Intact.{intact-shape, lookup-shape}
 use Rattle.spec.proofs.Name.{valid-name}
 use Rattle.spec.proofs.Slot.{FormatLaws, Fits, kv-laws, rbp-laws, kv-fits, rbp-fits, not-free, made-valid, made-state, made-holder, made-payload, UsedSlot, used-slot}
+use Rattle.spec.proofs.Get.{mac-eq, eq-mac, match-eq, eq-match}
 use Rattle.spec.proofs.Set.{flags-split, flags-join}
 use Rattle.spec.proofs.Record.{valid-flags-small, ValidRecord, valid-record}
 
@@ -43,14 +45,14 @@ all-valid : (l : List ℕ) → Printable l → every validNameByte l ≡ true
 all-valid [] h = refl
 all-valid (x ∷ l) h = rw (range-byte x (h 0 (omega arith)), all-valid l (λ i k. h (suc i) (omega arith)))
 
-name-shape : NameShape
+name-shape : (name : List ℕ) → (validName name ≡ true) ↔ ((1 ≤ length name) × (length name ≤ 64) × Printable name)
 unfolding validName
 name-shape name = (
   λ h. let v = valid-name name h in (v .not-empty, v .short, printable name (v .bytes)),
   λ h. rw (le-leb 1 (length name) (h .0), le-leb (length name) 64 (h .1)) (all-valid name (h .2)),
 )
 
-prefix-shape : PrefixShape
+prefix-shape : (prefix : List ℕ) → (validPrefix prefix ≡ true) ↔ ((length prefix ≤ 64) × Printable prefix)
 unfolding validPrefix
 prefix-shape prefix = (
   λ h. let p = both (leb (length prefix) 64) (every validNameByte prefix) h in (leb-true (length prefix) 64 (p .0), printable prefix (p .1)),
@@ -59,8 +61,11 @@ prefix-shape prefix = (
 
 -- ---- flags
 
-flags-shape : FlagsShape
-flags-shape flags = (flags-good, good-flags)
+bit : (n : ℕ) → (eqb n 1 ≡ true) ↔ (n ≡ 1)
+bit n = (eqb-true n 1, eq-eqb n 1)
+
+good-shape : (flags : ℕ) → (validFlags flags ≡ true) ↔ GoodFlags flags
+good-shape flags = (flags-good, good-flags)
   where
     flags-good : validFlags flags ≡ true → GoodFlags flags
     flags-good h =
@@ -75,6 +80,9 @@ flags-shape flags = (flags-good, good-flags)
     good-flags : GoodFlags flags → validFlags flags ≡ true
     good-flags (inl h) = flags-join flags (omega arith) (λ e. let z = eqb-true (flags / 8 % 2) 1 e in absurd (omega arith))
     good-flags (inr h) = let a = h .0 in let b = h .1 in flags-join flags (omega arith) (λ e. eq-eqb (flags / 4 % 2) 1 (omega arith))
+
+flag-shape : (flags : ℕ) → FlagShape flags
+flag-shape flags = record { good = good-shape flags; bit-1 = bit (flags % 2); bit-2 = bit (flags / 2 % 2); bit-4 = bit (flags / 4 % 2); bit-8 = bit (flags / 8 % 2) }
 
 -- ---- lengths
 
@@ -103,9 +111,6 @@ unfolding sized
 sized-rbp area (k, p, q, e) =
     let c : slotCount rbpFormat area ≡ k = omega arith in
     rw (c, eq-eqb (length area) (k * 82) e, le-leb 1 k p, le-leb k 64 q)
-
-sized-shape : SizedShape
-sized-shape = record { kv = λ area. (kv-sized area, sized-kv area); rbp = λ area. (rbp-sized area, sized-rbp area) }
 
 -- ---- bytes of a list
 
@@ -149,18 +154,18 @@ unless-flag false test h e = h
 
 -- ---- a record
 
-module _ (r : List ℕ) (b : AreBytes r) (h : recordValid revision1 r ≡ true) where
-  v : ValidRecord revision1 r
-  v = valid-record revision1 r h
+module _ (r : List ℕ) (b : AreBytes r) (h : wellFormed r ≡ true) where
+  v : ValidRecord r
+  v = valid-record r h
 
   long : 36 ≤ length r
   long = let e = v .record-length in omega arith
 
   zero-parts : ((requireConfidentiality (flagsOf r) || allZero (ivOf r)) ≡ true) × ((requireIntegrity (flagsOf r) || allZero (tagOf r)) ≡ true)
-  unfolding recordValid
+  unfolding wellFormed
   zero-parts =
       let a = both (eqb (metadataSizeOf r) 20) _ h in
-      let c = both (eqb (revisionOf r) revision1) _ (a .1) in
+      let c = both (eqb (revisionOf r) 1) _ (a .1) in
       let d = both (validFlags (flagsOf r)) _ (c .1) in
       let e = both (leb (dataSizeOf r) 480) _ (d .1) in
       let f = both (eqb (length r) (dataSizeOf r + 36)) _ (e .1) in
@@ -174,7 +179,7 @@ module _ (r : List ℕ) (b : AreBytes r) (h : recordValid revision1 r ≡ true) 
       ∙ ap (λ (x : List ℕ). ivOf r ++ x) (drop-drop 8 12 r ∙ sym (take-append-drop (length r - 36) (drop 20 r))
       ∙ ap (λ (x : List ℕ). storedDataOf r ++ x) (drop-drop (length r - 36) 20 r ∙ ap (λ (k : ℕ). drop k r) e))
 
-  record-layout : r ≡ 0x14 ∷ 0x00 ∷ 0x01 ∷ 0x00 ∷ (leBytes 4 (dataSizeOf r) ++ (leBytes 4 (flagsOf r) ++ (ivOf r ++ (storedDataOf r ++ tagOf r))))
+  record-layout : r ≡ recordBytes (dataSizeOf r) (flagsOf r) (ivOf r) (storedDataOf r) (tagOf r)
   record-layout =
       let z = long in
       let m = v .metadata-size in
@@ -205,7 +210,7 @@ module _ (r : List ℕ) (b : AreBytes r) (h : recordValid revision1 r ≡ true) 
     tag = tagOf r;
     layout = record-layout;
     size-bound = v .data-size;
-    flags-good = flags-shape (flagsOf r) .0 (v .flags);
+    flags-good = good-shape (flagsOf r) .0 (v .flags);
     iv-length = iv-size;
     stored-length = stored-size;
     tag-length = tag-size;
@@ -215,10 +220,10 @@ module _ (r : List ℕ) (b : AreBytes r) (h : recordValid revision1 r ≡ true) 
 
 module _ (size flags : ℕ) (iv stored tag : List ℕ) (s : size ≤ 480) (g : GoodFlags flags) (a : length iv ≡ 8) (d : length stored ≡ size) (t : length tag ≡ 16) where
   abbrev laid : List ℕ
-  laid = 0x14 ∷ 0x00 ∷ 0x01 ∷ 0x00 ∷ (leBytes 4 size ++ (leBytes 4 flags ++ (iv ++ (stored ++ tag))))
+  laid = recordBytes size flags iv stored tag
 
   flags-ok : validFlags flags ≡ true
-  flags-ok = flags-shape flags .1 g
+  flags-ok = good-shape flags .1 g
 
   laid-size : dataSizeOf laid ≡ size
   laid-size = le-value 4 size (omega arith)
@@ -235,29 +240,53 @@ module _ (size flags : ℕ) (iv stored tag : List ℕ) (s : size ≤ 480) (g : G
       let q = length-append stored tag in
       omega arith
 
-  abbrev before : List ℕ
-  before = 0x14 ∷ 0x00 ∷ 0x01 ∷ 0x00 ∷ (leBytes 4 size ++ (leBytes 4 flags ++ (iv ++ stored)))
+  abbrev meta : List ℕ
+  meta = metadataBytes size flags iv
+
+  meta-length : length meta ≡ 20
+  meta-length = omega arith
+
+  laid-meta : metadataOf laid ≡ meta
+  laid-meta = take-at meta (stored ++ tag) 20 meta-length
+
+  laid-stored : storedDataOf laid ≡ stored
+  laid-stored =
+      let e : length laid - 36 ≡ size = let l = laid-length in omega arith in
+      ap (λ (n : ℕ). take n (drop 20 laid)) e ∙ ap (take size) (drop-at meta (stored ++ tag) 20 meta-length) ∙ take-at stored tag size d
 
   laid-tag : tagOf laid ≡ tag
   laid-tag =
       let e : length laid - 16 ≡ size + 20 = let l = laid-length in omega arith in
-      let k : length before ≡ size + 20 = let p = length-append iv stored in omega arith in
-      let p : laid ≡ before ++ tag = λ i. 0x14 ∷ 0x00 ∷ 0x01 ∷ 0x00 ∷ (leBytes 4 size ++ (leBytes 4 flags ++ sym (append-assoc iv stored tag) i)) in
-      ap (λ (n : ℕ). drop n laid) e ∙ ap (λ (l : List ℕ). drop (size + 20) l) p ∙ drop-at before tag (size + 20) k
+      let k : length (meta ++ stored) ≡ size + 20 = let p = length-append meta stored in let m = meta-length in omega arith in
+      ap (λ (n : ℕ). drop n laid) e ∙ ap (drop (size + 20)) (sym (append-assoc meta stored tag)) ∙ drop-at (meta ++ stored) tag (size + 20) k
 
-  laid-valid : (requireConfidentiality flags ≡ false → iv ≡ zeros 8) → (requireIntegrity flags ≡ false → tag ≡ zeros 16) → recordValid revision1 laid ≡ true
-  unfolding recordValid
+  laid-valid : (requireConfidentiality flags ≡ false → iv ≡ zeros 8) → (requireIntegrity flags ≡ false → tag ≡ zeros 16) → wellFormed laid ≡ true
+  unfolding wellFormed
   laid-valid i j =
       let p : (requireConfidentiality flags || allZero iv) ≡ true = split (requireConfidentiality flags) (λ e. rw e) (λ e. rw (e, i e)) in
       let q : (requireIntegrity flags || allZero tag) ≡ true = split (requireIntegrity flags) (λ e. rw e) (λ e. rw (e, j e)) in
       rw (laid-tag, laid-iv, laid-flags, laid-size, laid-length, flags-ok, le-leb size 480 s, eq-eqb (size + 36) (size + 36) refl, p) q
 
-valid-of : (r : List ℕ) → WellFormed r → recordValid revision1 r ≡ true
+valid-of : (r : List ℕ) → WellFormed r → wellFormed r ≡ true
 valid-of r w = rw (w .layout)
     (laid-valid (w .size) (w .flags) (w .iv) (w .stored) (w .tag) (w .size-bound) (w .flags-good) (w .iv-length) (w .stored-length) (w .tag-length) (w .iv-zero) (w .tag-zero))
 
-record-shape : RecordShape
-record-shape r b = (well-formed r b, valid-of r)
+record-parts : (r : List ℕ) (w : WellFormed r) → RecordParts r w
+record-parts r w =
+    let e = w .layout in
+    let n = w .size in
+    let f = w .flags in
+    record {
+      size = ap dataSizeOf e ∙ laid-size n f (w .iv) (w .stored) (w .tag) (w .size-bound) (w .flags-good) (w .iv-length) (w .stored-length) (w .tag-length);
+      flags = ap flagsOf e ∙ laid-flags n f (w .iv) (w .stored) (w .tag) (w .size-bound) (w .flags-good) (w .iv-length) (w .stored-length) (w .tag-length);
+      iv = ap ivOf e ∙ laid-iv n f (w .iv) (w .stored) (w .tag) (w .size-bound) (w .flags-good) (w .iv-length) (w .stored-length) (w .tag-length);
+      metadata = ap metadataOf e ∙ laid-meta n f (w .iv) (w .stored) (w .tag) (w .size-bound) (w .flags-good) (w .iv-length) (w .stored-length) (w .tag-length);
+      stored = ap storedDataOf e ∙ laid-stored n f (w .iv) (w .stored) (w .tag) (w .size-bound) (w .flags-good) (w .iv-length) (w .stored-length) (w .tag-length);
+      tag = ap tagOf e ∙ laid-tag n f (w .iv) (w .stored) (w .tag) (w .size-bound) (w .flags-good) (w .iv-length) (w .stored-length) (w .tag-length);
+    }
+
+record-shape : (r : List ℕ) → RecordShape r
+record-shape r = record { valid = λ b. (well-formed r b, valid-of r); parts = record-parts r }
 
 -- ---- a slot
 
@@ -381,9 +410,27 @@ slot-shape = record {
   rbp-parts = λ s w. parts-of rbpFormat rbp-laws s (w .name) (w .payload) (w .name-valid) (rbp-fits (w .payload) (w .payload-length)) (made-entry s w);
 }
 
-free-shape : FreeShape
+free-shape : (slot : List ℕ) → (slotFree slot ≡ true) ↔ (slot ≡ zeros (length slot))
 unfolding slotFree
 free-shape s = (zeros-of s, λ e. rw e (allZero-zeros (length s)))
 
+held-shape : (o : Option (List ℕ)) → (isSome o ≡ false) ↔ (o ≡ none)
+held-shape none = (λ h. refl, λ h. refl)
+held-shape (some r) = (λ h. clash true refl h, λ h. clashO (some r) h refl)
+
 pub shapes-hold : Shapes
-shapes-hold = record { of-name = name-shape; of-prefix = prefix-shape; of-flags = flags-shape; of-length = sized-shape; of-record = record-shape; of-slot = slot-shape; of-free-slot = free-shape; of-area = intact-shape; of-lookup = lookup-shape }
+shapes-hold = record {
+  of-name = name-shape;
+  of-prefix = prefix-shape;
+  of-flags = flag-shape;
+  of-kv-length = λ area. (kv-sized area, sized-kv area);
+  of-rbp-length = λ area. (rbp-sized area, sized-rbp area);
+  of-record = record-shape;
+  of-mac = λ key name r. (mac-eq key name r, eq-mac key name r);
+  of-copy = λ tag r. (match-eq tag r, eq-match tag r);
+  of-held = held-shape;
+  of-slot = slot-shape;
+  of-free-slot = free-shape;
+  of-area = intact-shape;
+  of-lookup = lookup-shape;
+}

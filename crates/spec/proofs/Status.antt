@@ -1,13 +1,25 @@
--- Laws of a chain of tests, and of what depends on its outcome.
-use mathlib.Core.Path.{_≡_, refl}
+-- Laws of a list of tests, and of what depends on its outcome.
+use mathlib.Core.Path.{_≡_, refl, ap}
 use mathlib.Core.Logic.{_≢_}
 use mathlib.Core.Bool.{Bool, true, false, not}
+use mathlib.Core.List.{List, [], _∷_, _++_, map}
 use Prim.Native.Nat.{ℕ}
-use native.Mathlib.Omega.{arith}
-use borrow.Author.Tests.{ne-eqb}
-use Rattle.spec.specs.Status.{ok, isListed, refuseIf, onOk}
-use Rattle.spec.specs.Calls.{guarded}
-use Rattle.spec.proofs.Split.{not-false-is}
+use borrow.Author.Tests.{eqb-true, eqb-false, ne-eqb}
+use lib.Dec.{eqb}
+use Rattle.spec.specs.Bytes.{every}
+use Rattle.spec.specs.Status.{ok, isListed, isOk, Test, _when_, refuseIf, firstOf, onOk}
+use Rattle.spec.proofs.Split.{split, both, not-true-is}
+
+abbrev pub number : Test → ℕ
+number (n when failed) = n
+
+-- every test passes
+abbrev pub Passed : List Test → Type 0
+Passed [] = Unit {0}
+Passed ((n when failed) ∷ rest) = (failed ≡ false) × Passed rest
+
+abbrev pub nonzero : ℕ → Bool
+nonzero n = not (eqb n 0)
 
 -- what holds of the number and of what follows holds of both together
 pub refuse-either : (P : ℕ → Type 0) (t : Bool) (number rest : ℕ) → P number → P rest → P (refuseIf t number rest)
@@ -15,8 +27,12 @@ unfolding refuseIf
 refuse-either P true number rest p q = p
 refuse-either P false number rest p q = q
 
-pub refuse-listed : (t : Bool) (number rest : ℕ) → isListed number ≡ true → isListed rest ≡ true → isListed (refuseIf t number rest) ≡ true
-refuse-listed t number rest p q = refuse-either (λ n. isListed n ≡ true) t number rest p q
+pub first-listed : (l : List Test) → every isListed (map number l) ≡ true → isListed (firstOf l) ≡ true
+unfolding isListed
+first-listed [] h = refl
+first-listed ((n when failed) ∷ l) h =
+    let k = both (isListed n) (every isListed (map number l)) h in
+    refuse-either (λ n. isListed n ≡ true) failed n (firstOf l) (k .0) (first-listed l (k .1))
 
 -- an accepted call has passed the test, and what follows
 pub passed : (t : Bool) (number rest : ℕ) → number ≢ ok → refuseIf t number rest ≡ ok → (t ≡ false) × (rest ≡ ok)
@@ -24,16 +40,33 @@ unfolding refuseIf
 passed true number rest n h = absurd (n h)
 passed false number rest n h = (refl, h)
 
-pub guard-passed : (lengths undamaged : Bool) (rest : ℕ) → guarded lengths undamaged rest ≡ ok → (lengths ≡ true) × (undamaged ≡ true) × (rest ≡ ok)
-unfolding guarded
-guard-passed lengths undamaged rest h =
-    let a = passed (not lengths) 1 _ (omega arith) h in
-    let b = passed (not undamaged) 2 rest (omega arith) (a .1) in
-    (not-false-is lengths (a .0), not-false-is undamaged (b .0), b .1)
+-- 0 is given exactly where every test passes
+pub all-passed : (l : List Test) → every nonzero (map number l) ≡ true → firstOf l ≡ ok → Passed l
+all-passed [] z h = tt
+all-passed ((n when failed) ∷ l) z h =
+    let k = both (nonzero n) (every nonzero (map number l)) z in
+    let p = passed failed n (firstOf l) (eqb-false n 0 (not-true-is (eqb n 0) (k .0))) h in
+    (p .0, all-passed l (k .1) (p .1))
 
-pub guard-listed : (lengths undamaged : Bool) (rest : ℕ) → isListed rest ≡ true → isListed (guarded lengths undamaged rest) ≡ true
-unfolding guarded isListed
-guard-listed lengths undamaged rest h = refuse-listed (not lengths) 1 _ refl (refuse-listed (not undamaged) 2 rest refl h)
+pub passed-all : (l : List Test) → Passed l → firstOf l ≡ ok
+unfolding refuseIf
+passed-all [] p = refl
+passed-all ((n when failed) ∷ l) p = rw (p .0) (passed-all l (p .1))
+
+-- tests that pass do not decide
+pub past : (l m : List Test) → Passed l → firstOf (l ++ m) ≡ firstOf m
+unfolding refuseIf
+past [] m p = refl
+past ((n when failed) ∷ l) m p = rw (p .0) (past l m (p .1))
+
+-- what comes after tests makes their number, where it has the same one
+pub under : (l m n : List Test) → firstOf m ≡ firstOf n → firstOf (l ++ m) ≡ firstOf (l ++ n)
+under [] m n e = e
+under ((k when failed) ∷ l) m n e = ap (refuseIf failed k) (under l m n e)
+
+pub passed-split : (l m : List Test) → Passed (l ++ m) → Passed l × Passed m
+passed-split [] m p = (tt, p)
+passed-split ((n when failed) ∷ l) m p = let k = passed-split l m (p .1) in ((p .0, k .0), k .1)
 
 pub on-refused : {A : Type 0} (status : ℕ) (a b : A) → status ≢ ok → onOk status a b ≡ b
 unfolding onOk
@@ -42,3 +75,7 @@ on-refused status a b h = rw (ne-eqb status ok h)
 pub on-ok : {A : Type 0} (status : ℕ) (a b : A) → status ≡ ok → onOk status a b ≡ a
 unfolding onOk
 on-ok status a b h = rw h
+
+-- a status is 0 or not
+pub by-status : {P : Type 0} (status : ℕ) → (status ≡ ok → P) → (status ≢ ok → P) → P
+by-status status f g = split (isOk status) (λ e. f (eqb-true status ok e)) (λ e. g (eqb-false status ok e))

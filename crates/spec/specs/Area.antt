@@ -1,5 +1,11 @@
 -- 01, "Card and chip": an area of 1 to 64 slots, each free or used by one name. One theory for both, over a format. `kv` is 01's card, SecureStore's
 -- underlying key-value store; `rbp` is 01's chip, its rollback protection.
+--   Format, kvFormat, rbpFormat                where the parts of a slot stand: 01's place and entry
+--   slotFree, slotUsed, slotValid, slotHolder  a slot that is free, used, well shaped; the name that uses it
+--   slotName, slotPayload, makeSlot            what is read from a slot, and a slot made
+--   slots, sized, names, intact                an area's slots; of right length; the names in it; without damage
+--   slotOf, lookup, hasSpace                   what it holds for a name; whether a slot is free
+--   insertSlot, eraseSlot, Edit, editArea      a name's slot written or cleared
 use mathlib.Core.Bool.{Bool, cond, _&&_, _||_}
 use mathlib.Core.List.{List, [], _∷_, _++_}
 use mathlib.Core.Option.{Option, none, some}
@@ -100,9 +106,12 @@ module _ (F : Format) where
   unfoldable pub intact : List ℕ → Bool
   intact area = every slotValid (slots area) && distinct (names area)
 
-  -- what an area holds for a name
+  -- the slot that a name uses, and what it holds for the name
+  abbrev pub slotOf : List ℕ → Name → Option (List ℕ)
+  slotOf area name = findFirst (holds name) (slots area)
+
   unfoldable pub lookup : List ℕ → Name → Option (List ℕ)
-  lookup area name = mapOption slotPayload (findFirst (holds name) (slots area))
+  lookup area name = mapOption slotPayload (slotOf area name)
 
   -- a free slot is there
   unfoldable pub hasSpace : List ℕ → Bool

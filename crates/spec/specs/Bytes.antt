@@ -1,4 +1,8 @@
--- Byte strings are lists of numbers. Tests on them, zero fill, and little-endian numbers ("here and in every later layout").
+-- Byte strings are lists of numbers.
+--   every, any, isSome               tests of all and of some elements, and of an option
+--   bytesEq, allZero                 tests of byte strings
+--   zeros, zeroFill                  zero bytes, and as many as are missing
+--   leBytes, leValue, u16At, u32At   little-endian numbers ("here and in every later layout"), in bytes and read from them
 use mathlib.Core.Bool.{Bool, true, false, _&&_, _||_}
 use mathlib.Core.List.{List, [], _∷_, _++_}
 use mathlib.Core.Option.{Option, none, some}

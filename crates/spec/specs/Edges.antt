@@ -1,74 +1,78 @@
--- 01, "Edges to try", those marked P: one table of what the definitions give and what 01 says, and one statement. Rows about a call are the call's
--- own definition, on a card with one slot and a chip with one, all zero, under the all-zero device key.
+-- 01, "Edges to try", those marked P: one table of what the definitions give and what 01 says, and one statement, that the two columns are equal
+-- (`edges`, `Edges`). Beside it a place and an entry in numerals (`Numerals`), since in 01's "whole" several fields are alike.
+-- Calls are made on one blank slot of each kind, under the all-zero device key.
 use mathlib.Core.Path.{_≡_}
-use mathlib.Core.Bool.{Bool, true}
-use mathlib.Core.List.{List, [], _∷_, _++_}
+use mathlib.Core.List.{List, [], _∷_, _++_, map}
+use mathlib.Core.Option.{some}
 use Prim.Native.Nat.{ℕ}
 use lib.ListN.{take, drop, replicate}
 use Rattle.cipher.specs.Kdf.{salt, encPrefix, authPrefix}
-use Rattle.spec.specs.Bytes.{every, bytesEq, zeros}
-use Rattle.spec.specs.Status.{ok, errInvalidName, errInvalidFlags, errDataSize, errOffset}
 use Rattle.spec.specs.Name.{Name, keyName}
-use Rattle.spec.specs.Calls.{setStatus, storeSet, storeGet}
+use Rattle.spec.specs.Area.{rbpFormat, lookup}
+use Rattle.spec.specs.Calls.{storeSet, storeGet}
 
-pub record Row : Type 0 where
-  pub gives : List ℕ
-  pub says : List ℕ
-
-abbrev pub agrees : Row → Bool
-agrees row = bytesEq (row .gives) (row .says)
-
--- "a"
+-- "a"; 29 bytes, the last one unlike the others
 abbrev pub nameA : Name
 nameA = 0x61 ∷ []
 
--- the status of a set of a name, flags and data
-abbrev pub statusOf : Name → ℕ → List ℕ → List ℕ
-statusOf name flags value = setStatus (zeros 584) (zeros 82) (zeros 16) name flags (zeros 8) value ∷ []
+abbrev pub name29 : Name
+name29 = replicate 28 0x61 ++ 0x62 ∷ []
 
--- the card after a set of "a" with flags 0
+-- a blank card and chip
+abbrev pub blankKv : List ℕ
+blankKv = replicate 584 0
+
+abbrev pub blankRbp : List ℕ
+blankRbp = replicate 82 0
+
+-- the status of a set of a name, flags and data; the card after a set of "a" with flags 0
+abbrev pub setStatus : Name → ℕ → List ℕ → List ℕ
+setStatus name flags value = storeSet blankKv blankRbp (replicate 16 0) name flags (replicate 8 0) value .answer .status ∷ []
+
 abbrev pub kvAfter : List ℕ → List ℕ
-kvAfter value = storeSet (zeros 584) (zeros 82) (zeros 16) nameA 0 (zeros 8) value .kv
+kvAfter value = storeSet blankKv blankRbp (replicate 16 0) nameA 0 (replicate 8 0) value .after .kv
 
 -- the status and the count of a get at an offset, after a set of three bytes
 abbrev pub readAt : ℕ → List ℕ
 readAt offset =
-    let g = storeGet (kvAfter (1 ∷ 2 ∷ 3 ∷ [])) (zeros 82) (zeros 16) nameA offset (zeros 8) in
-    g .status ∷ g .count ∷ []
+    let a = storeGet (kvAfter (1 ∷ 2 ∷ 3 ∷ [])) blankRbp (replicate 16 0) nameA offset (replicate 8 0) .answer in
+    a .status ∷ a .numbers
 
--- 29 bytes, the last one unlike the others
-abbrev pub name28 : Name
-name28 = replicate 28 0x61
-
-abbrev pub name29 : Name
-name29 = name28 ++ 0x62 ∷ []
-
-abbrev pub edges : List Row
+abbrev pub edges : List (List ℕ × List ℕ)
 edges =
     -- a name of 64 bytes: good; 0 or 65: 3; a byte 0x20: 3
-    record { gives = statusOf (replicate 64 0x61) 0 []; says = ok ∷ [] }
-    ∷ record { gives = statusOf [] 0 []; says = errInvalidName ∷ [] }
-    ∷ record { gives = statusOf (replicate 65 0x61) 0 []; says = errInvalidName ∷ [] }
-    ∷ record { gives = statusOf (0x61 ∷ 0x20 ∷ []) 0 []; says = errInvalidName ∷ [] }
+    (setStatus (replicate 64 0x61) 0 [], 0 ∷ [])
+    ∷ (setStatus [] 0 [], 3 ∷ [])
+    ∷ (setStatus (replicate 65 0x61) 0 [], 3 ∷ [])
+    ∷ (setStatus (0x61 ∷ 0x20 ∷ []) 0 [], 3 ∷ [])
     -- data of 480: record length 516, bytes 04 02; 481: 5
-    ∷ record { gives = take 2 (drop 2 (kvAfter (zeros 480))); says = 0x04 ∷ 0x02 ∷ [] }
-    ∷ record { gives = statusOf nameA 0 (zeros 480); says = ok ∷ [] }
-    ∷ record { gives = statusOf nameA 0 (zeros 481); says = errDataSize ∷ [] }
+    ∷ (take 2 (drop 2 (kvAfter (replicate 480 0))), 0x04 ∷ 0x02 ∷ [])
+    ∷ (setStatus nameA 0 (replicate 480 0), 0 ∷ [])
+    ∷ (setStatus nameA 0 (replicate 481 0), 5 ∷ [])
     -- flags 8: 4; flags 12: good; flags 16: 4
-    ∷ record { gives = statusOf nameA 8 []; says = errInvalidFlags ∷ [] }
-    ∷ record { gives = statusOf nameA 12 []; says = ok ∷ [] }
-    ∷ record { gives = statusOf nameA 16 []; says = errInvalidFlags ∷ [] }
+    ∷ (setStatus nameA 8 [], 4 ∷ [])
+    ∷ (setStatus nameA 12 [], 0 ∷ [])
+    ∷ (setStatus nameA 16 [], 4 ∷ [])
     -- whole: name "a", flags 0, empty data
-    ∷ record { gives = kvAfter []; says = 0x01 ∷ 0x01 ∷ 0x24 ∷ 0x00 ∷ 0x61 ∷ (zeros 63 ++ 0x14 ∷ 0x00 ∷ 0x01 ∷ 0x00 ∷ zeros 512) }
+    ∷ (kvAfter [], 0x01 ∷ 0x01 ∷ 0x24 ∷ 0x00 ∷ 0x61 ∷ (replicate 63 0 ++ 0x14 ∷ 0x00 ∷ 0x01 ∷ 0x00 ∷ replicate 512 0))
     -- salt for a name of 29 bytes: "AUTH" drops its last byte, "ENC" keeps all
-    ∷ record { gives = salt authPrefix name29; says = 0x41 ∷ 0x55 ∷ 0x54 ∷ 0x48 ∷ name28 }
-    ∷ record { gives = salt encPrefix name29; says = 0x45 ∷ 0x4e ∷ 0x43 ∷ name29 }
+    ∷ (salt authPrefix name29, 0x41 ∷ 0x55 ∷ 0x54 ∷ 0x48 ∷ replicate 28 0x61)
+    ∷ (salt encPrefix name29, 0x45 ∷ 0x4e ∷ 0x43 ∷ (replicate 28 0x61 ++ 0x62 ∷ []))
     -- offset equal to data size: done, count 0; one more: 14
-    ∷ record { gives = readAt 3; says = ok ∷ 0 ∷ [] }
-    ∷ record { gives = readAt 4; says = errOffset ∷ 0 ∷ [] }
+    ∷ (readAt 3, 0 ∷ 0 ∷ [])
+    ∷ (readAt 4, 14 ∷ 0 ∷ [])
     -- key 42 is kept under 000000000000002a
-    ∷ record { gives = keyName 42; says = replicate 14 0x30 ++ 0x32 ∷ 0x61 ∷ [] }
+    ∷ (keyName 42, replicate 14 0x30 ++ 0x32 ∷ 0x61 ∷ [])
     ∷ []
 
 abbrev pub Edges : Type 0
-Edges = every agrees edges ≡ true
+Edges = map (λ row. row .0) edges ≡ map (λ row. row .1) edges
+
+-- one place and one entry more in numerals that are all unlike, so that no two fields can stand for each other: what a set of "ab", flags 1, data
+-- 07 08 09 leaves on the card; and a chip that holds "ab", which a get then finds
+pub record Numerals : Type 0 where
+  pub place : storeSet blankKv blankRbp (replicate 16 0) (0x61 ∷ 0x62 ∷ []) 1 (replicate 8 9) (7 ∷ 8 ∷ 9 ∷ []) .after .kv
+      ≡ 0x01 ∷ 0x02 ∷ 0x27 ∷ 0x00 ∷ 0x61 ∷ 0x62 ∷ (replicate 62 0 ++ 0x14 ∷ 0x00 ∷ 0x01 ∷ 0x00 ∷ 0x03 ∷ 0x00 ∷ 0x00 ∷ 0x00
+      ∷ 0x01 ∷ 0x00 ∷ 0x00 ∷ 0x00 ∷ (replicate 8 0 ++ 7 ∷ 8 ∷ 9 ∷ replicate 493 0))
+  pub entry : lookup rbpFormat (0x01 ∷ 0x02 ∷ 0x61 ∷ 0x62 ∷ (replicate 62 0 ++ 1 ∷ 2 ∷ 3 ∷ 4 ∷ 5 ∷ 6 ∷ 7 ∷ 8 ∷ 9 ∷ 10 ∷ 11 ∷ 12 ∷ 13 ∷ 14 ∷ 15 ∷ 16 ∷ []))
+      (0x61 ∷ 0x62 ∷ []) ≡ some (1 ∷ 2 ∷ 3 ∷ 4 ∷ 5 ∷ 6 ∷ 7 ∷ 8 ∷ 9 ∷ 10 ∷ 11 ∷ 12 ∷ 13 ∷ 14 ∷ 15 ∷ 16 ∷ [])

@@ -1,4 +1,8 @@
 -- Two clients' calls in one order, and what a run of them gives.
+--   Side, Tagged, lefts, rights   a call with its client; each client's part of a list
+--   Interleaving                  a merge of two lists
+--   Outcome, answers, final       one step's answer and state; those of a list of calls
+--   sharedStep                    the step of a merge
 use mathlib.Core.Path.{_≡_}
 use mathlib.Core.Bool.{Bool, true, false, cond}
 use mathlib.Core.List.{List, [], _∷_}

@@ -1,18 +1,22 @@
 -- 01, "The book of demand 3": the reference model. It has no slots and no room: for each name a record or none, and a CMAC or none, in two finite
--- tables. Its steps share with the calls the tests of key and IV, the decisions, the effects and what a get or info gives of a record; of areas they
--- know nothing.
-use mathlib.Core.Bool.{true, cond, _&&_}
+-- tables. Its steps run the same requests as the store's calls; of areas they know nothing.
+--   Call, requestOf, callName     a call on a name, as a request, and its name
+--   Item, tableLookup, tableEdit  a finite table
+--   Model, modelOf, modelWorld    two tables; those of a card and a chip; what keeps the names
+--   modelStep, storeStep          a call on the model; a call on card and chip
+use mathlib.Core.Bool.{true, cond}
 use mathlib.Core.List.{List, [], _∷_}
 use mathlib.Core.Option.{Option, none, some}
 use Prim.Native.Nat.{ℕ}
 use Rattle.spec.specs.Bytes.{bytesEq}
-use Rattle.spec.specs.Status.{onOk}
+use Rattle.spec.specs.Status.{Answer}
 use Rattle.spec.specs.Name.{Name}
-use Rattle.spec.specs.Record.{dataSizeOf, flagsOf}
+use Rattle.spec.specs.Record.{requireReplayProtection}
 use Rattle.spec.specs.Area.{Format, kvFormat, rbpFormat, slots, slotHolder, slotPayload, Edit, keep, write, clear}
-use Rattle.spec.specs.Binding.{Binding, Effect, recordOf, setDecision, setEffect, getDecision, readCount, readOutput, removeDecision, removeEffect}
-use Rattle.spec.specs.Calls.{keySized, ivSized, guarded}
 use Rattle.spec.specs.Interleaving.{Outcome}
+use Rattle.spec.specs.Request.{Binding, Effect, Request, World, run}
+use Rattle.spec.specs.Decisions.{setRequest, getRequest, getInfoRequest, removeRequest}
+use Rattle.spec.specs.Calls.{Areas, storeWorld}
 
 -- A call on a name, "each call's arguments except card and chip".
 pub data Call : Type 0 where
@@ -25,18 +29,14 @@ pub data Call : Type 0 where
   -- name
   removeCall : Name → Call
 
-abbrev pub callName : Call → Name
-callName (setCall key name flags iv value) = name
-callName (getCall key name offset output) = name
-callName (getInfoCall key name) = name
-callName (removeCall name) = name
+abbrev pub requestOf : Call → Request
+requestOf (setCall key name flags iv value) = setRequest requireReplayProtection key name flags iv value
+requestOf (getCall key name offset output) = getRequest requireReplayProtection key name offset output
+requestOf (getInfoCall key name) = getInfoRequest requireReplayProtection key name
+requestOf (removeCall name) = removeRequest requireReplayProtection name
 
--- "An answer is the number, a get's count and all final bytes of its output, an info's data size and flags."
-pub data Answer : Type 0 where
-  setAnswer : ℕ → Answer
-  getAnswer : ℕ → ℕ → List ℕ → Answer
-  getInfoAnswer : ℕ → ℕ → ℕ → Answer
-  removeAnswer : ℕ → Answer
+abbrev pub callName : Call → Name
+callName c = requestOf c .name
 
 -- ---- a finite table
 
@@ -82,36 +82,14 @@ modelBinding m name = record { stored = tableLookup (m .records) name; tag = tab
 abbrev pub modelEdit : Model → Name → Effect → Model
 modelEdit m name effect = record { records = tableEdit (m .records) name (effect .kv); tags = tableEdit (m .tags) name (effect .rbp) }
 
--- "A refusal leaves the book as it was."
-abbrev pub modelAfter : ℕ → Model → Name → Effect → Model
-modelAfter status m name effect = onOk status (modelEdit m name effect) m
+-- "2, 10, and 1 for card or chip don't occur."
+abbrev pub modelWorld : World Model
+modelWorld = record { lengths = λ m. []; damage = λ m. []; binding = modelBinding; room = λ m. record { kv = true; rbp = true }; edit = modelEdit }
 
--- "Each step makes the call's tests in the order given above. 2, 10, and 1 for card or chip don't occur."
-abbrev pub modelSet : Model → List ℕ → Name → ℕ → List ℕ → List ℕ → Outcome Model Answer
-modelSet m key name flags iv value =
-    let status = guarded (keySized key && ivSized iv) true (setDecision name flags value (modelBinding m name) true true) in
-    record { answer = setAnswer status; after = modelAfter status m name (setEffect key name flags iv value) }
-
--- "A done get or info changes nothing."
-abbrev pub modelGet : Model → List ℕ → Name → ℕ → List ℕ → Outcome Model Answer
-modelGet m key name offset output =
-    let status = guarded (keySized key) true (getDecision key name offset (modelBinding m name)) in
-    let r = recordOf (tableLookup (m .records) name) in
-    record { answer = getAnswer status (onOk status (readCount offset output r) 0) (onOk status (readOutput key name offset output r) output); after = m }
-
-abbrev pub modelGetInfo : Model → List ℕ → Name → Outcome Model Answer
-modelGetInfo m key name =
-    let status = guarded (keySized key) true (getDecision key name 0 (modelBinding m name)) in
-    let r = recordOf (tableLookup (m .records) name) in
-    record { answer = getInfoAnswer status (onOk status (dataSizeOf r) 0) (onOk status (flagsOf r) 0); after = m }
-
-abbrev pub modelRemove : Model → Name → Outcome Model Answer
-modelRemove m name =
-    let status = removeDecision name (modelBinding m name) in
-    record { answer = removeAnswer status; after = modelAfter status m name (removeEffect (modelBinding m name)) }
-
+-- "Each step makes the call's tests in the order given above."
 abbrev pub modelStep : Model → Call → Outcome Model Answer
-modelStep m (setCall key name flags iv value) = modelSet m key name flags iv value
-modelStep m (getCall key name offset output) = modelGet m key name offset output
-modelStep m (getInfoCall key name) = modelGetInfo m key name
-modelStep m (removeCall name) = modelRemove m name
+modelStep m c = run modelWorld m (requestOf c)
+
+-- the store's step: the calls themselves
+abbrev pub storeStep : Areas → Call → Outcome Areas Answer
+storeStep s c = run storeWorld s (requestOf c)

@@ -1,4 +1,6 @@
--- 01: "A good name has 1 to 64 bytes, each 0x21 to 0x7E."
+-- Names.
+--   validNameByte, validName, validPrefix   01: "A good name has 1 to 64 bytes, each 0x21 to 0x7E"; a walk's prefix
+--   hexDigits, keyName                      the name that a key is kept under
 use mathlib.Core.Bool.{Bool, cond, _&&_}
 use mathlib.Core.List.{List, [], _∷_, _++_}
 use Prim.Native.Nat.{ℕ, zero, suc, _+_, _/_, _%_}

@@ -1,8 +1,13 @@
 -- 01, "The record": metadata (20 bytes), the stored data, 16 bytes of CMAC.
+--   writeOnce .. requireReplayProtection, validFlags   the flags of a record, and which are good
+--   metadata, sealRecord, Sealable                     what a set makes of its arguments; what it has tested of them
+--   metadataSizeOf .. tagOf                            the parts of a record, which is the bytes that a record length counts
+--   wellFormed, macOk, plaintext                       the tests of a record, and its data
+-- Which revision is written and which are read is decided here alone.
 use mathlib.Core.Path.{_≡_}
 use mathlib.Core.Bool.{Bool, true, cond, not, _&&_, _||_}
 use mathlib.Core.List.{List, _++_}
-use Prim.Native.Nat.{ℕ, _+_, _-_, _/_, _%_, _<_, _≤_}
+use Prim.Native.Nat.{ℕ, _+_, _-_, _/_, _%_, _≤_}
 use lib.Dec.{eqb, leb, ltb}
 use lib.ListN.{length, take, drop}
 use Rattle.cipher.specs.Cmac.{cmac}
@@ -28,17 +33,13 @@ requireReplayProtection flags = eqb (flags / 8 % 2) 1
 unfoldable pub validFlags : ℕ → Bool
 validFlags flags = ltb flags 16 && (not (requireReplayProtection flags) || requireIntegrity flags)
 
--- the revision that is written, and the only one accepted
-abbrev pub revision1 : ℕ
-revision1 = 1
-
 -- 01: "at most 480"
 abbrev pub maxDataSize : ℕ
 maxDataSize = 480
 
--- metadata size 20 (2), revision (2), data size (4), flags (4), IV (8)
-unfoldable pub metadata : ℕ → ℕ → ℕ → List ℕ → List ℕ
-metadata revision dataSize flags iv = leBytes 2 20 ++ (leBytes 2 revision ++ (leBytes 4 dataSize ++ (leBytes 4 flags ++ iv)))
+-- metadata size 20 (2), revision 1 (2), data size (4), flags (4), IV (8)
+unfoldable pub metadata : ℕ → ℕ → List ℕ → List ℕ
+metadata dataSize flags iv = leBytes 2 20 ++ (leBytes 2 1 ++ (leBytes 4 dataSize ++ (leBytes 4 flags ++ iv)))
 
 -- the fields of a record r, which is the bytes that a record length counts
 abbrev pub metadataSizeOf : List ℕ → ℕ
@@ -66,10 +67,10 @@ storedDataOf r = take (length r - 36) (drop 20 r)
 abbrev pub tagOf : List ℕ → List ℕ
 tagOf r = drop (length r - 16) r
 
--- 01: "well formed", of a revision
-unfoldable pub recordValid : ℕ → List ℕ → Bool
-recordValid revision r =
-    eqb (metadataSizeOf r) 20 && (eqb (revisionOf r) revision && (validFlags (flagsOf r) && (leb (dataSizeOf r) maxDataSize && (eqb (length r) (dataSizeOf r + 36)
+-- 01: "well formed"
+unfoldable pub wellFormed : List ℕ → Bool
+wellFormed r =
+    eqb (metadataSizeOf r) 20 && (eqb (revisionOf r) 1 && (validFlags (flagsOf r) && (leb (dataSizeOf r) maxDataSize && (eqb (length r) (dataSizeOf r + 36)
     && ((requireConfidentiality (flagsOf r) || allZero (ivOf r)) && (requireIntegrity (flagsOf r) || allZero (tagOf r)))))))
 
 -- the keys that a name has under a device key
@@ -99,16 +100,15 @@ unfoldable pub sealedTag : List ℕ → Name → ℕ → List ℕ → List ℕ �
 sealedTag key name flags meta stored = cond (requireIntegrity flags) (recordCmac key name meta stored) (zeros 16)
 
 -- what a set has tested of its arguments before it seals them
-pub record Sealable (revision flags : ℕ) (iv value : List ℕ) : Type 0 where
-  pub revision-small : revision < 65536
+pub record Sealable (flags : ℕ) (iv value : List ℕ) : Type 0 where
   pub flags-valid : validFlags flags ≡ true
   pub iv-sized : length iv ≡ 8
   pub value-sized : length value ≤ maxDataSize
 
 -- the record that a set makes of its arguments
-unfoldable pub sealRecord : ℕ → List ℕ → Name → ℕ → List ℕ → List ℕ → List ℕ
-sealRecord revision key name flags iv value =
-    let meta = metadata revision (length value) flags (sealedIv flags iv) in
+unfoldable pub sealRecord : List ℕ → Name → ℕ → List ℕ → List ℕ → List ℕ
+sealRecord key name flags iv value =
+    let meta = metadata (length value) flags (sealedIv flags iv) in
     let stored = sealedData key name flags iv value in
     meta ++ (stored ++ sealedTag key name flags meta stored)
 

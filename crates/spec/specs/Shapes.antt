@@ -1,15 +1,25 @@
--- 01's tests of one thing, from the layout: what a name, flags, a length, a record and a slot are that pass them.
+-- 01's tests of one thing, and the parts that are read from it, from its layout in bytes.
+--   Printable, FlagShape, Multiple   the bytes of a good name, the flags, a right length
+--   WellFormed, RecordShape          a record that is well formed, and what is read from it
+--   UsedPlace, UsedEntry, SlotShape  a used slot, and what is read from it
+--   NoDamage, SlotHeld, LookupShape  an area without damage; what it holds for a name
+--   Shapes                           all of it, with names, prefixes, lengths and free slots
 use mathlib.Core.Path.{_≡_}
 use mathlib.Core.Logic.{_≢_, _⊎_, _↔_}
 use mathlib.Core.Bool.{true, false}
-use mathlib.Core.List.{List, _∷_, _++_}
-use mathlib.Core.Option.{some}
-use Prim.Native.Nat.{ℕ, _-_, _*_, _≤_, _<_}
+use mathlib.Core.List.{List, _++_}
+use mathlib.Core.Option.{Option, none, some}
+use Prim.Native.Nat.{ℕ, _*_, _/_, _%_, _≤_, _<_}
 use lib.ListN.{length, getD, take, drop}
-use Rattle.spec.specs.Bytes.{zeros, leBytes}
+use Rattle.cipher.specs.Cmac.{cmac}
+use Rattle.cipher.specs.Kdf.{derivedKey, authPrefix}
+use Rattle.spec.specs.Bytes.{isSome, zeros}
 use Rattle.spec.specs.Name.{Name, validName, validPrefix}
-use Rattle.spec.specs.Record.{requireConfidentiality, requireIntegrity, validFlags, revision1, recordValid}
-use Rattle.spec.specs.Area.{Format, kvFormat, rbpFormat, slotFree, slotPayload, slotUsed, slotHolder, slotCount, sized, intact, lookup}
+use Rattle.spec.specs.Record.{writeOnce, requireConfidentiality, requireIntegrity, requireReplayProtection, validFlags}
+use Rattle.spec.specs.Record.{dataSizeOf, flagsOf, ivOf, metadataOf, storedDataOf, tagOf, wellFormed, macOk}
+use Rattle.spec.specs.Area.{Format, kvFormat, rbpFormat, slotFree, slotPayload, slotUsed, slotHolder, slotCount, sized, intact, slotOf, lookup}
+use Rattle.spec.specs.Layout.{metadataBytes, recordBytes, placeBytes, entryBytes}
+use Rattle.spec.specs.Decisions.{tagMatches}
 
 -- each element is at most 255
 abbrev pub AreBytes : List ℕ → Type 0
@@ -19,27 +29,21 @@ AreBytes l = (i : ℕ) → getD l i 0 < 256
 abbrev pub Printable : List ℕ → Type 0
 Printable l = (i : ℕ) → i < length l → (0x21 ≤ getD l i 0) × (getD l i 0 ≤ 0x7e)
 
--- "A good name has 1 to 64 bytes", a prefix 0 to 64
-abbrev pub NameShape : Type 0
-NameShape = (name : Name) → (validName name ≡ true) ↔ ((1 ≤ length name) × (length name ≤ 64) × Printable name)
-
-abbrev pub PrefixShape : Type 0
-PrefixShape = (prefix : List ℕ) → (validPrefix prefix ≡ true) ↔ ((length prefix ≤ 64) × Printable prefix)
-
 -- good flags are 0 to 7 and 12 to 15
 abbrev pub GoodFlags : ℕ → Type 0
 GoodFlags flags = (flags ≤ 7) ⊎ ((12 ≤ flags) × (flags ≤ 15))
 
-abbrev pub FlagsShape : Type 0
-FlagsShape = (flags : ℕ) → (validFlags flags ≡ true) ↔ GoodFlags flags
+-- "Flags: 1 write once, 2 confidentiality, 4 integrity, 8 replay protection"
+pub record FlagShape (flags : ℕ) : Type 0 where
+  pub good : (validFlags flags ≡ true) ↔ GoodFlags flags
+  pub bit-1 : (writeOnce flags ≡ true) ↔ (flags % 2 ≡ 1)
+  pub bit-2 : (requireConfidentiality flags ≡ true) ↔ (flags / 2 % 2 ≡ 1)
+  pub bit-4 : (requireIntegrity flags ≡ true) ↔ (flags / 4 % 2 ≡ 1)
+  pub bit-8 : (requireReplayProtection flags ≡ true) ↔ (flags / 8 % 2 ≡ 1)
 
--- "1 to 64 places of 584 bytes", "1 to 64 entries of 82 bytes"
+-- a length of 1 to 64 slots, and no byte besides
 abbrev pub Multiple : ℕ → List ℕ → Type 0
 Multiple size area = (k : ℕ) × (1 ≤ k) × (k ≤ 64) × (length area ≡ k * size)
-
-pub record SizedShape : Type 0 where
-  pub kv : (area : List ℕ) → (sized kvFormat area ≡ true) ↔ Multiple 584 area
-  pub rbp : (area : List ℕ) → (sized rbpFormat area ≡ true) ↔ Multiple 82 area
 
 -- 01: "well formed"
 pub record WellFormed (r : List ℕ) : Type 0 where
@@ -48,7 +52,7 @@ pub record WellFormed (r : List ℕ) : Type 0 where
   pub iv : List ℕ
   pub stored : List ℕ
   pub tag : List ℕ
-  pub layout : r ≡ 0x14 ∷ 0x00 ∷ 0x01 ∷ 0x00 ∷ (leBytes 4 size ++ (leBytes 4 flags ++ (iv ++ (stored ++ tag))))
+  pub layout : r ≡ recordBytes size flags iv stored tag
   pub size-bound : size ≤ 480
   pub flags-good : GoodFlags flags
   pub iv-length : length iv ≡ 8
@@ -57,24 +61,33 @@ pub record WellFormed (r : List ℕ) : Type 0 where
   pub iv-zero : requireConfidentiality flags ≡ false → iv ≡ zeros 8
   pub tag-zero : requireIntegrity flags ≡ false → tag ≡ zeros 16
 
-abbrev pub RecordShape : Type 0
-RecordShape = (r : List ℕ) → AreBytes r → (recordValid revision1 r ≡ true) ↔ WellFormed r
+-- what is read from it
+pub record RecordParts (r : List ℕ) (w : WellFormed r) : Type 0 where
+  pub size : dataSizeOf r ≡ w .size
+  pub flags : flagsOf r ≡ w .flags
+  pub iv : ivOf r ≡ w .iv
+  pub metadata : metadataOf r ≡ metadataBytes (w .size) (w .flags) (w .iv)
+  pub stored : storedDataOf r ≡ w .stored
+  pub tag : tagOf r ≡ w .tag
 
--- 01: a used place: 01, name length, record length, name and zeros to 64, record and zeros to 516
+pub record RecordShape (r : List ℕ) : Type 0 where
+  pub valid : AreBytes r → (wellFormed r ≡ true) ↔ WellFormed r
+  pub parts : (w : WellFormed r) → RecordParts r w
+
+-- a used place, a used entry
 pub record UsedPlace (slot : List ℕ) : Type 0 where
   pub name : Name
   pub payload : List ℕ
   pub name-valid : validName name ≡ true
   pub payload-length : length payload ≤ 516
-  pub layout : slot ≡ 1 ∷ length name ∷ (leBytes 2 (length payload) ++ ((name ++ zeros (64 - length name)) ++ (payload ++ zeros (516 - length payload))))
+  pub layout : slot ≡ placeBytes name payload
 
--- 01: a used entry: 01, name length, name and zeros to 64, CMAC
 pub record UsedEntry (slot : List ℕ) : Type 0 where
   pub name : Name
   pub payload : List ℕ
   pub name-valid : validName name ≡ true
   pub payload-length : length payload ≡ 16
-  pub layout : slot ≡ 1 ∷ length name ∷ ((name ++ zeros (64 - length name)) ++ payload)
+  pub layout : slot ≡ entryBytes name payload
 
 pub record SlotShape : Type 0 where
   pub kv : (slot : List ℕ) → length slot ≡ 584 → AreBytes slot → (slotUsed kvFormat slot ≡ true) ↔ UsedPlace slot
@@ -82,10 +95,6 @@ pub record SlotShape : Type 0 where
   -- the name and the record, or the CMAC, that are read from it
   pub kv-parts : (slot : List ℕ) (u : UsedPlace slot) → (slotHolder kvFormat slot ≡ some (u .name)) × (slotPayload kvFormat slot ≡ u .payload)
   pub rbp-parts : (slot : List ℕ) (u : UsedEntry slot) → (slotHolder rbpFormat slot ≡ some (u .name)) × (slotPayload rbpFormat slot ≡ u .payload)
-
--- "A free place or entry is all zero."
-abbrev pub FreeShape : Type 0
-FreeShape = (slot : List ℕ) → (slotFree slot ≡ true) ↔ (slot ≡ zeros (length slot))
 
 -- the bytes of slot i
 abbrev pub slotAt : Format → List ℕ → ℕ → List ℕ
@@ -97,27 +106,34 @@ pub record NoDamage (F : Format) (area : List ℕ) : Type 0 where
   pub once : (i j : ℕ) (name : Name) → i < slotCount F area → j < slotCount F area
       → slotHolder F (slotAt F area i) ≡ some name → slotHolder F (slotAt F area j) ≡ some name → i ≡ j
 
-abbrev pub IntactShape : Type 0
-IntactShape = (F : Format) (area : List ℕ) → (intact F area ≡ true) ↔ NoDamage F area
-
--- what an area holds for a name: the payload of the slot that has it (of the lowest, where two have it)
-pub record Holds (F : Format) (area name payload : List ℕ) : Type 0 where
+-- the slot that a name uses (the lowest, where two have the name)
+pub record SlotHeld (F : Format) (area name slot : List ℕ) : Type 0 where
   pub i : ℕ
   pub in-range : i < slotCount F area
   pub held : slotHolder F (slotAt F area i) ≡ some name
   pub lowest : (j : ℕ) → j < i → slotHolder F (slotAt F area j) ≢ some name
-  pub payload-is : slotPayload F (slotAt F area i) ≡ payload
+  pub slot-is : slotAt F area i ≡ slot
 
-abbrev pub LookupShape : Type 0
-LookupShape = (F : Format) (area name payload : List ℕ) → (lookup F area name ≡ some payload) ↔ Holds F area name payload
+pub record LookupShape (F : Format) (area name : List ℕ) : Type 0 where
+  pub slot : (slot : List ℕ) → (slotOf F area name ≡ some slot) ↔ SlotHeld F area name slot
+  pub payload : (slot : List ℕ) → slotOf F area name ≡ some slot → lookup F area name ≡ some (slotPayload F slot)
+  pub none-there : slotOf F area name ≡ none → lookup F area name ≡ none
 
 pub record Shapes : Type 0 where
-  pub of-name : NameShape
-  pub of-prefix : PrefixShape
-  pub of-flags : FlagsShape
-  pub of-length : SizedShape
-  pub of-record : RecordShape
+  -- "A good name has 1 to 64 bytes", a prefix 0 to 64
+  pub of-name : (name : Name) → (validName name ≡ true) ↔ ((1 ≤ length name) × (length name ≤ 64) × Printable name)
+  pub of-prefix : (prefix : List ℕ) → (validPrefix prefix ≡ true) ↔ ((length prefix ≤ 64) × Printable prefix)
+  pub of-flags : (flags : ℕ) → FlagShape flags
+  -- "1 to 64 places of 584 bytes", "1 to 64 entries of 82 bytes"
+  pub of-kv-length : (area : List ℕ) → (sized kvFormat area ≡ true) ↔ Multiple 584 area
+  pub of-rbp-length : (area : List ℕ) → (sized rbpFormat area ≡ true) ↔ Multiple 82 area
+  pub of-record : (r : List ℕ) → RecordShape r
+  -- the CMAC is right, and the chip's copy is that CMAC, in all bytes; a name is held or not
+  pub of-mac : (key name r : List ℕ) → (macOk key name r ≡ true) ↔ (tagOf r ≡ cmac (derivedKey key authPrefix name) (name ++ (metadataOf r ++ storedDataOf r)))
+  pub of-copy : (tag : Option (List ℕ)) (r : List ℕ) → (tagMatches tag r ≡ true) ↔ (tag ≡ some (tagOf r))
+  pub of-held : (held : Option (List ℕ)) → (isSome held ≡ false) ↔ (held ≡ none)
   pub of-slot : SlotShape
-  pub of-free-slot : FreeShape
-  pub of-area : IntactShape
-  pub of-lookup : LookupShape
+  -- "A free place or entry is all zero."
+  pub of-free-slot : (slot : List ℕ) → (slotFree slot ≡ true) ↔ (slot ≡ zeros (length slot))
+  pub of-area : (F : Format) (area : List ℕ) → (intact F area ≡ true) ↔ NoDamage F area
+  pub of-lookup : (F : Format) (area name : List ℕ) → LookupShape F area name

@@ -1,4 +1,8 @@
--- Lists of slots, whatever a slot is: cutting a flat area, finding and replacing one, and the names that hold them.
+-- Lists of slots, whatever a slot is.
+--   chunks, joinSlots                     a flat area cut into slots, and slots joined
+--   findFirst, firstIndex, replaceFirst   the first slot that passes a test: itself, its index, another in its place
+--   member, distinct, dedup               lists of names: one among them, none twice, equal ones once
+--   isName, namesBy                       the names that slots have
 use mathlib.Core.Bool.{Bool, true, false, cond, not, _&&_}
 use mathlib.Core.List.{List, [], _∷_, _++_}
 use mathlib.Core.Option.{Option, none, some}

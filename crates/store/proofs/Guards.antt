@@ -6,7 +6,7 @@ use Prim.Native.Nat.{ℕ}
 use native.Mathlib.Omega.{arith}
 use Rattle.spec.specs.Status.{ok, refuseIf}
 use Rattle.spec.specs.Area.{kvFormat, rbpFormat, sized, intact}
-use Rattle.spec.specs.Calls.{areasSized, areasIntact, guarded}
+use Rattle.store.specs.Parts.{areasSized, areasIntact, guarded}
 
 pub and-left : (a b : Bool) → (a && b) ≡ true → a ≡ true
 and-left true b e = refl

@@ -13,17 +13,18 @@ use slots::areas;
 use slots::names;
 ghost use mathlib.Core.Path.{_≡_};
 ghost use mathlib.Core.Bool.{true};
+ghost use mathlib.Core.List.{[], _∷_};
 ghost use Prim.Native.Nat.{_≤_};
 ghost use Rattle.spec.specs.Area.{kvFormat, rbpFormat, sized, intact, lookup};
-ghost use Rattle.spec.specs.Record.{revision1, recordValid, dataSizeOf};
-ghost use Rattle.spec.specs.Binding.{recordOf, getHeld, readCount, readOutput};
-ghost use Rattle.spec.specs.Calls.{areasSized, areasIntact, getStatus, storeGet, storeGetInfo};
-ghost use Rattle.store.specs.Answers.{got, informed};
-ghost use Rattle.store.specs.Parts.{authentic, fresh};
+ghost use Rattle.spec.specs.Record.{requireReplayProtection, wellFormed, dataSizeOf};
+ghost use Rattle.spec.specs.Status.{firstOf};
+ghost use Rattle.spec.specs.Decisions.{recordOf, getHeld, readCount, readOutput};
+ghost use Rattle.spec.specs.Calls.{bindingOf, storeGet, storeGetInfo};
+ghost use Rattle.store.specs.Parts.{areasSized, areasIntact, getStatus, authentic, fresh};
 
 // The record's CMAC verifies, where integrity is flagged.
 fn is_authentic(device_key: [u8; 16], name: &[u8], stored: &[u8]) -> bool
-    requires { ⌜ recordValid revision1 (now stored) ≡ true ⌝ }
+    requires { ⌜ wellFormed (now stored) ≡ true ⌝ }
     ensures { λ r. ⌜ r ≡ authentic «device_key» (now (name .entry)) (now (stored .entry)) ⌝ }
 {
     if !flag::require_integrity(record::record_flags(stored)) {
@@ -34,7 +35,7 @@ fn is_authentic(device_key: [u8; 16], name: &[u8], stored: &[u8]) -> bool
 
 // The record is the one that the chip knows, where replay protection is flagged.
 fn is_fresh(rbp: &[u8], name: &[u8], stored: &[u8]) -> bool
-    requires { ⌜ (sized rbpFormat (now rbp) ≡ true) × (intact rbpFormat (now rbp) ≡ true) × (recordValid revision1 (now stored) ≡ true) ⌝ }
+    requires { ⌜ (sized rbpFormat (now rbp) ≡ true) × (intact rbpFormat (now rbp) ≡ true) × (wellFormed (now stored) ≡ true) ⌝ }
     ensures { λ r. ⌜ r ≡ fresh (lookup rbpFormat (now (rbp .entry)) (now (name .entry))) (now (stored .entry)) ⌝ }
 {
     if !flag::require_replay_protection(record::record_flags(stored)) {
@@ -49,7 +50,7 @@ fn is_fresh(rbp: &[u8], name: &[u8], stored: &[u8]) -> bool
 // 12 where the chip has a name that the card lacks, else 6; then 8, 11, 12, 14.
 fn held_status(kv: &[u8], rbp: &[u8], device_key: [u8; 16], name: &[u8], offset: usize) -> u32
     requires { ⌜ (areasSized (now kv) (now rbp) ≡ true) × (areasIntact (now kv) (now rbp) ≡ true) ⌝ }
-    ensures { λ r. ⌜ r ≡ getHeld «device_key» (now (name .entry)) offset (lookup kvFormat (now (kv .entry)) (now (name .entry))) (lookup rbpFormat (now (rbp .entry)) (now (name .entry))) ⌝ }
+    ensures { λ r. ⌜ r ≡ firstOf (getHeld requireReplayProtection «device_key» (now (name .entry)) offset (bindingOf (now (kv .entry)) (now (rbp .entry)) (now (name .entry)))) ⌝ }
 {
     if !areas::has_name(AreaKind::Kv, kv, name) {
         if areas::has_name(AreaKind::Rbp, rbp, name) {
@@ -95,7 +96,7 @@ fn read_record(
     output: &mut [u8],
 ) -> usize
     requires { ⌜ (sized kvFormat (now kv) ≡ true) × (intact kvFormat (now kv) ≡ true) ⌝ }
-    requires { ⌜ (recordValid revision1 (recordOf (lookup kvFormat (now kv) (now name))) ≡ true) × (offset ≤ dataSizeOf (recordOf (lookup kvFormat (now kv) (now name)))) ⌝ }
+    requires { ⌜ (wellFormed (recordOf (lookup kvFormat (now kv) (now name))) ≡ true) × (offset ≤ dataSizeOf (recordOf (lookup kvFormat (now kv) (now name)))) ⌝ }
     ensures { λ n. ⌜ (n ≡ readCount offset (now (output .entry)) (recordOf (lookup kvFormat (now (kv .entry)) (now (name .entry))))) × (now (output .exit) ≡ readOutput «device_key» (now (name .entry)) offset (now (output .entry)) (recordOf (lookup kvFormat (now (kv .entry)) (now (name .entry))))) ⌝ }
 {
     let stored = areas::payload_of(AreaKind::Kv, kv, name);
@@ -115,7 +116,7 @@ pub fn get(
     offset: usize,
     output: &mut [u8],
 ) -> Got
-    ensures { λ r. ⌜ got r (now (output .exit)) ≡ storeGet (now (kv .entry)) (now (rbp .entry)) (now («device_key» .entry)) (now (name .entry)) offset (now (output .entry)) ⌝ }
+    ensures { λ r. ⌜ record { status = r .status; numbers = r .count ∷ []; output = now (output .exit) } ≡ storeGet (now (kv .entry)) (now (rbp .entry)) (now («device_key» .entry)) (now (name .entry)) offset (now (output .entry)) .answer ⌝ }
 {
     let status = get_status(kv, rbp, device_key, name, offset);
     if status != status::OK {
@@ -129,7 +130,7 @@ pub fn get(
 }
 
 pub fn get_info(kv: &[u8], rbp: &[u8], device_key: &[u8], name: &[u8]) -> Info
-    ensures { λ r. ⌜ informed r ≡ storeGetInfo (now (kv .entry)) (now (rbp .entry)) (now («device_key» .entry)) (now (name .entry)) ⌝ }
+    ensures { λ r. ⌜ record { status = r .status; numbers = r .«data_size» ∷ r .flags ∷ []; output = [] } ≡ storeGetInfo (now (kv .entry)) (now (rbp .entry)) (now («device_key» .entry)) (now (name .entry)) .answer ⌝ }
 {
     let status = get_status(kv, rbp, device_key, name, 0);
     if status != status::OK {

@@ -6,7 +6,7 @@ ghost use mathlib.Core.Path.{_≡_};
 ghost use mathlib.Core.Bool.{_&&_};
 ghost use Prim.Native.Nat.{min};
 ghost use Rattle.spec.specs.Status.{ok};
-ghost use Rattle.spec.specs.Calls.{areasSized, areasIntact, guarded};
+ghost use Rattle.store.specs.Parts.{areasSized, areasIntact, guarded};
 
 // Lengths (1) and damage (2); `lengths` says whether the call's other lengths are right.
 pub(crate) fn guard_areas(kv: &[u8], rbp: &[u8], lengths: bool) -> u32

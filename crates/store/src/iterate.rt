@@ -6,11 +6,12 @@ use slots::AreaKind;
 use slots::areas;
 use slots::names;
 ghost use mathlib.Core.Path.{_≡_};
+ghost use mathlib.Core.List.{[], _∷_};
 ghost use Rattle.spec.specs.Calls as Calls;
-ghost use Rattle.store.specs.Answers.{iterated};
+ghost use Rattle.store.specs.Parts.{iteratorStatus};
 
 fn iterator_status(kv: &[u8], rbp: &[u8], prefix: &[u8], start_slot: usize, name_buf: &[u8]) -> u32
-    ensures { λ r. ⌜ r ≡ Calls.iteratorStatus (now (kv .entry)) (now (rbp .entry)) (now (prefix .entry)) «start_slot» (now («name_buf» .entry)) ⌝ }
+    ensures { λ r. ⌜ r ≡ iteratorStatus (now (kv .entry)) (now (rbp .entry)) (now (prefix .entry)) «start_slot» (now («name_buf» .entry)) ⌝ }
 {
     let guarded = guard::guard_areas(kv, rbp, 64 <= name_buf.len());
     if guarded != status::OK {
@@ -32,7 +33,7 @@ pub fn iterator_next(
     start_slot: usize,
     name_buf: &mut [u8],
 ) -> Iterated
-    ensures { λ r. ⌜ iterated r (now («name_buf» .exit)) ≡ Calls.storeIteratorNext (now (kv .entry)) (now (rbp .entry)) (now (prefix .entry)) «start_slot» (now («name_buf» .entry)) ⌝ }
+    ensures { λ r. ⌜ record { status = r .status; numbers = r .«name_len» ∷ r .«next_slot» ∷ []; output = now («name_buf» .exit) } ≡ Calls.storeIteratorNext (now (kv .entry)) (now (rbp .entry)) (now (prefix .entry)) «start_slot» (now («name_buf» .entry)) .answer ⌝ }
 {
     let status = iterator_status(kv, rbp, prefix, start_slot, name_buf);
     if status != status::OK {

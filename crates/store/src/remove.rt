@@ -8,16 +8,18 @@ use slots::areas;
 use slots::names;
 ghost use mathlib.Core.Path.{_≡_};
 ghost use mathlib.Core.Bool.{true};
-ghost use Rattle.spec.specs.Record.{revision1, recordValid};
+ghost use mathlib.Core.List.{[]};
+ghost use Rattle.spec.specs.Record.{requireReplayProtection, wellFormed};
 ghost use Rattle.spec.specs.Area.{kvFormat, rbpFormat, sized, intact, lookup, editArea};
-ghost use Rattle.spec.specs.Binding.{recordOf, removeHeld, removeEffect};
-ghost use Rattle.spec.specs.Calls.{areasSized, areasIntact, bindingOf, removeStatus, storeRemove};
-ghost use Rattle.store.specs.Answers.{written};
+ghost use Rattle.spec.specs.Status.{firstOf};
+ghost use Rattle.spec.specs.Decisions.{recordOf, removeHeld, removeEffect};
+ghost use Rattle.spec.specs.Calls.{bindingOf, storeRemove};
+ghost use Rattle.store.specs.Parts.{areasSized, areasIntact, removeStatus};
 
 // 6, 8, 7.
 fn held_status(kv: &[u8], name: &[u8]) -> u32
     requires { ⌜ (sized kvFormat (now kv) ≡ true) × (intact kvFormat (now kv) ≡ true) ⌝ }
-    ensures { λ r. ⌜ r ≡ removeHeld (lookup kvFormat (now (kv .entry)) (now (name .entry))) ⌝ }
+    ensures { λ r. ⌜ r ≡ firstOf (removeHeld (lookup kvFormat (now (kv .entry)) (now (name .entry)))) ⌝ }
 {
     if !areas::has_name(AreaKind::Kv, kv, name) {
         return status::ERR_NOT_FOUND;
@@ -48,8 +50,8 @@ fn remove_status(kv: &[u8], rbp: &[u8], name: &[u8]) -> u32
 // The name's slot is cleared, and with replay protection the chip's.
 fn erase_record(kv: &mut [u8], rbp: &mut [u8], name: &[u8])
     requires { ⌜ (areasSized (now kv) (now rbp) ≡ true) × (areasIntact (now kv) (now rbp) ≡ true) ⌝ }
-    requires { ⌜ recordValid revision1 (recordOf (lookup kvFormat (now kv) (now name))) ≡ true ⌝ }
-    ensures { λ _. ⌜ (now (kv .exit) ≡ editArea kvFormat (now (kv .entry)) (now (name .entry)) (removeEffect (bindingOf (now (kv .entry)) (now (rbp .entry)) (now (name .entry))) .kv)) × (now (rbp .exit) ≡ editArea rbpFormat (now (rbp .entry)) (now (name .entry)) (removeEffect (bindingOf (now (kv .entry)) (now (rbp .entry)) (now (name .entry))) .rbp)) ⌝ }
+    requires { ⌜ wellFormed (recordOf (lookup kvFormat (now kv) (now name))) ≡ true ⌝ }
+    ensures { λ _. ⌜ (now (kv .exit) ≡ editArea kvFormat (now (kv .entry)) (now (name .entry)) (removeEffect requireReplayProtection (bindingOf (now (kv .entry)) (now (rbp .entry)) (now (name .entry))) .kv)) × (now (rbp .exit) ≡ editArea rbpFormat (now (rbp .entry)) (now (name .entry)) (removeEffect requireReplayProtection (bindingOf (now (kv .entry)) (now (rbp .entry)) (now (name .entry))) .rbp)) ⌝ }
 {
     let flags = record::record_flags(areas::payload_of(AreaKind::Kv, kv, name));
     areas::erase_slot(AreaKind::Kv, kv, name);
@@ -59,7 +61,7 @@ fn erase_record(kv: &mut [u8], rbp: &mut [u8], name: &[u8])
 }
 
 pub fn remove(kv: &mut [u8], rbp: &mut [u8], name: &[u8]) -> u32
-    ensures { λ r. ⌜ written r (now (kv .exit)) (now (rbp .exit)) ≡ storeRemove (now (kv .entry)) (now (rbp .entry)) (now (name .entry)) ⌝ }
+    ensures { λ r. ⌜ record { answer = record { status = r; numbers = []; output = [] }; after = record { kv = now (kv .exit); rbp = now (rbp .exit) } } ≡ storeRemove (now (kv .entry)) (now (rbp .entry)) (now (name .entry)) ⌝ }
 {
     let status = remove_status(kv, rbp, name);
     if status != status::OK {

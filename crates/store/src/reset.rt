@@ -4,11 +4,11 @@ use slots::AreaKind;
 use slots::areas;
 use slots::buffers;
 ghost use mathlib.Core.Path.{_≡_};
+ghost use mathlib.Core.List.{[]};
 ghost use Rattle.spec.specs.Calls as Calls;
-ghost use Rattle.store.specs.Answers.{written};
 
 pub fn reset(kv: &mut [u8], rbp: &mut [u8]) -> u32
-    ensures { λ r. ⌜ written r (now (kv .exit)) (now (rbp .exit)) ≡ Calls.storeReset (now (kv .entry)) (now (rbp .entry)) ⌝ }
+    ensures { λ r. ⌜ record { answer = record { status = r; numbers = []; output = [] }; after = record { kv = now (kv .exit); rbp = now (rbp .exit) } } ≡ Calls.storeReset (now (kv .entry)) (now (rbp .entry)) ⌝ }
 {
     if !areas::area_sized(AreaKind::Kv, kv) {
         return status::ERR_LENGTH;

@@ -10,16 +10,17 @@ use slots::areas;
 use slots::names;
 ghost use mathlib.Core.Path.{_≡_};
 ghost use mathlib.Core.Bool.{true, not, _&&_};
+ghost use mathlib.Core.List.{[]};
 ghost use Rattle.spec.specs.Bytes.{isSome};
 ghost use Rattle.spec.specs.Area.{kvFormat, rbpFormat, sized, intact, lookup, hasSpace};
 ghost use Rattle.spec.specs.Name.{validName};
-ghost use Rattle.spec.specs.Record.{revision1, Sealable};
+ghost use Rattle.spec.specs.Record.{requireReplayProtection, Sealable};
 ghost use Rattle.spec.specs.Area.{editArea};
-ghost use Rattle.spec.specs.Binding.{setHeld, setEffect};
-ghost use Rattle.spec.specs.Calls.{areasSized, areasIntact, setStatus, storeSet};
+ghost use Rattle.spec.specs.Status.{firstOf};
+ghost use Rattle.spec.specs.Decisions.{setHeld, setEffect};
+ghost use Rattle.spec.specs.Calls.{bindingOf, roomOf, storeSet};
 ghost use Rattle.slots.specs.Kind.{formatOf};
-ghost use Rattle.store.specs.Answers.{written};
-ghost use Rattle.store.specs.Parts.{spaceStatus};
+ghost use Rattle.store.specs.Parts.{areasSized, areasIntact, setStatus, spaceStatus};
 
 // A slot that the name would need is not there.
 fn lacks_slot(kind: AreaKind, area: &[u8], name: &[u8]) -> bool
@@ -55,7 +56,7 @@ fn space_status(kv: &[u8], rbp: &[u8], name: &[u8], flags: u32) -> u32
 // What the name has: 8, 7, 9 where it is on the card, 7 where it is not; then 10.
 fn held_status(kv: &[u8], rbp: &[u8], name: &[u8], flags: u32) -> u32
     requires { ⌜ (areasSized (now kv) (now rbp) ≡ true) × (areasIntact (now kv) (now rbp) ≡ true) ⌝ }
-    ensures { λ r. ⌜ r ≡ setHeld flags (lookup kvFormat (now (kv .entry)) (now (name .entry))) (lookup rbpFormat (now (rbp .entry)) (now (name .entry))) (spaceStatus flags (now (kv .entry)) (now (rbp .entry)) (now (name .entry))) ⌝ }
+    ensures { λ r. ⌜ r ≡ firstOf (setHeld requireReplayProtection flags (bindingOf (now (kv .entry)) (now (rbp .entry)) (now (name .entry))) (roomOf (now (kv .entry)) (now (rbp .entry)))) ⌝ }
 {
     if areas::has_name(AreaKind::Kv, kv, name) {
         let old = areas::payload_of(AreaKind::Kv, kv, name);
@@ -121,8 +122,8 @@ fn write_record(
     data: &[u8],
 )
     requires { ⌜ (areasSized (now kv) (now rbp) ≡ true) × (areasIntact (now kv) (now rbp) ≡ true) ⌝ }
-    requires { ⌜ (validName (now name) ≡ true) × (Sealable revision1 flags iv (now «data»)) ⌝ }
-    ensures { λ _. ⌜ (now (kv .exit) ≡ editArea kvFormat (now (kv .entry)) (now (name .entry)) (setEffect «device_key» (now (name .entry)) flags iv (now («data» .entry)) .kv)) × (now (rbp .exit) ≡ editArea rbpFormat (now (rbp .entry)) (now (name .entry)) (setEffect «device_key» (now (name .entry)) flags iv (now («data» .entry)) .rbp)) ⌝ }
+    requires { ⌜ (validName (now name) ≡ true) × (Sealable flags iv (now «data»)) ⌝ }
+    ensures { λ _. ⌜ (now (kv .exit) ≡ editArea kvFormat (now (kv .entry)) (now (name .entry)) (setEffect requireReplayProtection «device_key» (now (name .entry)) flags iv (now («data» .entry)) .kv)) × (now (rbp .exit) ≡ editArea rbpFormat (now (rbp .entry)) (now (name .entry)) (setEffect requireReplayProtection «device_key» (now (name .entry)) flags iv (now («data» .entry)) .rbp)) ⌝ }
 {
     let record_buf = seal::seal_record(device_key, name, flags, iv, data);
     let len = data.len() + 36;
@@ -142,7 +143,7 @@ pub fn set(
     iv: &[u8],
     data: &[u8],
 ) -> u32
-    ensures { λ r. ⌜ written r (now (kv .exit)) (now (rbp .exit)) ≡ storeSet (now (kv .entry)) (now (rbp .entry)) (now («device_key» .entry)) (now (name .entry)) flags (now (iv .entry)) (now («data» .entry)) ⌝ }
+    ensures { λ r. ⌜ record { answer = record { status = r; numbers = []; output = [] }; after = record { kv = now (kv .exit); rbp = now (rbp .exit) } } ≡ storeSet (now (kv .entry)) (now (rbp .entry)) (now («device_key» .entry)) (now (name .entry)) flags (now (iv .entry)) (now («data» .entry)) ⌝ }
 {
     let status = set_status(kv, rbp, device_key, name, flags, iv, data);
     if status != status::OK {

@@ -7,7 +7,7 @@ use lib.ListN.{drop}
 use borrow.Author.Needs.{needs}
 use Rattle.keys.specs.KeyFile.{formatKeyFile}
 use Rattle.keys.specs.Calls.{writeKeyFile}
-use Rattle.keys.proofs.Written.{file-length, got-refused, got-done, short-buffer, long-material, writes}
+use Rattle.keys.proofs.Written.{file-length, answer-refused, answer-done, short-buffer, long-material, writes}
 use Rattle.keys.proofs.format.format_key_file.Statement.{statement}
 use Rattle.keys.proofs.format.format_key_file.Tie as tie
 
@@ -15,13 +15,13 @@ returns : tie.Need-returns
 unfolding writeKeyFile
 returns c =
     let a = c .before .before .before .args in
-    got-refused 1 _ _ (a .key-buf .now) (short-buffer (a .material .now) (a .key-buf .now) (c .if1 .taken)) (omega arith)
+    answer-refused 1 _ _ (a .key-buf .now) (short-buffer (a .material .now) (a .key-buf .now) (c .if1 .taken)) (omega arith)
 
 returns-2 : tie.Need-returns-2
 unfolding writeKeyFile
 returns-2 c =
     let a = c .before .before .before .before .args in
-    got-refused 13 _ _ (a .key-buf .now) (long-material (a .material .now) (a .key-buf .now) (c .before .if1 .left) (c .if2 .taken)) (omega arith)
+    answer-refused 13 _ _ (a .key-buf .now) (long-material (a .material .now) (a .key-buf .now) (c .before .if1 .left) (c .if2 .taken)) (omega arith)
 
 put-key-file-requires : tie.Need-put-key-file-requires
 put-key-file-requires c κs = search needs
@@ -39,7 +39,7 @@ returns-3 c =
     let b = a .key-buf .now in
     let f = formatKeyFile (a .attributes) (a .material .now) in
     let n = file-length (a .attributes) (a .material .now) in
-    got-done _ _ f b _ (writes (a .material .now) b (c .before .before .before .before .before .if1 .left) (c .before .before .before .before .if2 .left)) (sym n) (c .before .before .put-key-file .ensures ∙ ap (λ (k : ℕ). f ++ drop k b) (sym n))
+    answer-done _ _ f b _ (writes (a .material .now) b (c .before .before .before .before .before .if1 .left) (c .before .before .before .before .if2 .left)) (sym n) (c .before .before .put-key-file .ensures ∙ ap (λ (k : ℕ). f ++ drop k b) (sym n))
 
 pub format-key-file-spec : {M : Type 1} → statement M
 format-key-file-spec =

@@ -33,7 +33,7 @@ returns : tie.Need-returns
 returns c =
     let a = c .before .before .before .before .before .before .before .before .before .before .before .before .args in
     c .before .before .get .ensures
-    ∙ ap (λ (n : List ℕ). storeGet (a .kv .now) (a .rbp .now) (a .device-key .now) n 0 (a .file .now)) (name-part (a .key-id) _ _ (c .before .before .before .before .before .before .before .key-digits .ensures) (c .before .before .before .before .before .before .key-name-len .ensures))
+    ∙ ap (λ (n : List ℕ). storeGet (a .kv .now) (a .rbp .now) (a .device-key .now) n 0 (a .file .now) .answer) (name-part (a .key-id) _ _ (c .before .before .before .before .before .before .before .key-digits .ensures) (c .before .before .before .before .before .before .key-name-len .ensures))
 
 pub get-key-spec : {M : Type 1} → statement M
 get-key-spec =

@@ -7,13 +7,13 @@ use borrow.Author.Tests.{le-leb, lt-leb}
 use borrow.Author.Needs.{needs}
 use Rattle.spec.specs.Name.{keyName}
 use Rattle.spec.specs.Calls.{storeSet}
-use Rattle.keys.specs.Calls.{whenFits, saveKey}
+use Rattle.keys.specs.Calls.{saveKey}
 use Rattle.keys.proofs.Written.{file-part}
 use Rattle.keys.proofs.persist.save_persistent_key.Statement.{statement}
 use Rattle.keys.proofs.persist.save_persistent_key.Tie as tie
 
 returns : tie.Need-returns
-unfolding saveKey whenFits
+unfolding saveKey
 returns c = rw (lt-leb (length (c .before .before .before .before .before .before .args .material .now)) 444 (c .if1 .taken))
 
 slice-aggregate-put-key-file : tie.Need-slice-aggregate-put-key-file
@@ -44,7 +44,7 @@ same-length-2 : tie.Need-same-length-2
 same-length-2 c = search needs
 
 returns-2 : tie.Need-returns-2
-unfolding saveKey whenFits
+unfolding saveKey
 returns-2 c =
     let a = c .before .before .before .before .before .before .before .before .before .before .before .before .before .before .before .before .before .before .args in
     let m = a .material .now in

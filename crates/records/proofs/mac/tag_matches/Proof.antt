@@ -3,7 +3,6 @@ use mathlib.Core.Path.{ap, _∙_}
 use lib.ListN.{length}
 use borrow.Author.Needs.{needs}
 use Rattle.spec.specs.Bytes.{bytesEq}
-use Rattle.spec.specs.Record.{revision1}
 use Rattle.records.proofs.Valid.{valid-sized, tag-length}
 use Rattle.records.proofs.mac.tag_matches.Statement.{statement}
 use Rattle.records.proofs.mac.tag_matches.Tie as tie
@@ -13,7 +12,7 @@ record-tag-requires c κs = search needs
 
 tags-equal-ct-requires : tie.Need-tags-equal-ct-requires
 tags-equal-ct-requires c κs =
-    (c .before .before .before .pre .0, ap length (c .record-tag .ensures) ∙ tag-length _ (valid-sized revision1 (c .before .before .before .args .r .now) (c .before .before .before .pre .1)))
+    (c .before .before .before .pre .0, ap length (c .record-tag .ensures) ∙ tag-length _ (valid-sized (c .before .before .before .args .r .now) (c .before .before .before .pre .1)))
 
 returns : tie.Need-returns
 returns c =

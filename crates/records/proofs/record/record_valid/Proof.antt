@@ -1,13 +1,12 @@
 -- `records::record::record_valid`: both halves of the definition, where the record has a metadata and a CMAC at all.
 use mathlib.Core.Path.{sym}
 use borrow.Author.Needs.{needs}
-use Rattle.spec.specs.Record.{revision1}
 use Rattle.records.proofs.Valid.{valid-halves, short-invalid}
 use Rattle.records.proofs.record.record_valid.Statement.{statement}
 use Rattle.records.proofs.record.record_valid.Tie as tie
 
 returns : tie.Need-returns
-returns c = sym (short-invalid revision1 (c .before .before .args .r .now) (c .if1 .taken))
+returns c = sym (short-invalid (c .before .before .args .r .now) (c .if1 .taken))
 
 fields-valid-requires : tie.Need-fields-valid-requires
 fields-valid-requires c κs = search needs

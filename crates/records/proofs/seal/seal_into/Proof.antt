@@ -5,7 +5,6 @@ use lib.Seq.{length-take-le}
 use mir.Syntax.{w8}
 use borrow.Author.Needs.{needs}
 use borrow.Kind.Array.{eInt, good-length}
-use Rattle.spec.specs.Record.{revision1}
 use Rattle.records.proofs.Sealed.{sealed-steps}
 use Rattle.records.proofs.seal.seal_into.Statement.{statement}
 use Rattle.records.proofs.seal.seal_into.Tie as tie
@@ -47,7 +46,7 @@ returns : tie.Need-returns
 returns c =
     let start = c .before .before .before .before .before .before .before .before .before .before .before .before .before .before .before .before .before .before .before in
     let a = start .args in
-    sealed-steps revision1 (a .device-key) (a .name .now) (a .flags) (a .iv) (a .value .now) (good-length (eInt w8) 8 (a .iv) _ (start .good .1 .1 .1 .0))
+    sealed-steps (a .device-key) (a .name .now) (a .flags) (a .iv) (a .value .now) (good-length (eInt w8) 8 (a .iv) _ (start .good .1 .1 .1 .0))
     (a .record-buf .now) _ _ _ _ _ (c .before .before .before .before .before .before .before .before .before .before .before .before .before .before .before .sealed-iv .ensures) (c .before .before .before .before .before .before .before .before .before .before .before .before .before .put-metadata .ensures) (c .before .before .before .before .before .before .before .before .before .put-crypted .ensures) (c .before .before .before .before .before .sealed-tag .ensures) (c .before .before .paste .ensures)
 
 pub seal-into-spec : {M : Type 1} → statement M

@@ -2,7 +2,6 @@
 use mir.Syntax.{w8}
 use borrow.Author.Needs.{needs}
 use borrow.Kind.Array.{eInt, good-length}
-use Rattle.spec.specs.Record.{revision1}
 use Rattle.records.proofs.Sealed.{sealed-filled}
 use Rattle.records.proofs.seal.seal_record.Statement.{statement}
 use Rattle.records.proofs.seal.seal_record.Tie as tie
@@ -17,7 +16,7 @@ returns : tie.Need-returns
 returns c =
     let start = c .before .before .before .before .before in
     let a = start .args in
-    sealed-filled revision1 (a .device-key) (a .name .now) (a .flags) (a .iv) (a .value .now) (good-length (eInt w8) 8 (a .iv) _ (start .good .1 .1 .1 .0)) 516 _ (c .before .seal-into .ensures)
+    sealed-filled (a .device-key) (a .name .now) (a .flags) (a .iv) (a .value .now) (good-length (eInt w8) 8 (a .iv) _ (start .good .1 .1 .1 .0)) 516 _ (c .before .seal-into .ensures)
 
 pub seal-record-spec : {M : Type 1} → statement M
 seal-record-spec = tie.close (tie.spec slice-aggregate-seal-into seal-into-requires returns)

@@ -1,7 +1,6 @@
 -- `store::get::get`: a refusal leaves the output, and an accepted get has the record read.
 use mathlib.Core.Path.{sym, _∙_}
 use borrow.Author.Needs.{needs}
-use Rattle.spec.specs.Calls.{storeGet}
 use Rattle.store.proofs.Outcome.{get-facts, got-refused, got-done}
 use Rattle.store.proofs.get.get.Statement.{statement}
 use Rattle.store.proofs.get.get.Tie as tie
@@ -10,8 +9,9 @@ get-status-requires : tie.Need-get-status-requires
 get-status-requires c κs = search needs
 
 returns : tie.Need-returns
-unfolding storeGet
-returns c = got-refused _ _ _ _ (c .before .before .before .before .before .before .before .args .output .now) (c .if1 .taken) (c .before .get-status .ensures)
+returns c =
+    let a = c .before .before .before .before .before .before .before .args in
+    got-refused (a .kv .now) (a .rbp .now) (a .device-key .now) (a .name .now) (a .offset) (a .output .now) _ (c .if1 .taken) (c .before .get-status .ensures)
 
 array16-requires : tie.Need-array16-requires
 array16-requires c κs = get-facts (c .before .before .before .before .before .before .before .args .kv .now) (c .before .before .before .before .before .before .before .args .rbp .now) (c .before .before .before .before .before .before .before .args .device-key .now) (c .before .before .before .before .before .before .before .args .name .now) (c .before .before .before .before .before .before .before .args .offset) (sym (c .before .get-status .ensures) ∙ c .if1 .left) .key-length
@@ -24,9 +24,11 @@ same-length : tie.Need-same-length
 same-length c = search needs
 
 returns-2 : tie.Need-returns-2
-unfolding storeGet
 returns-2 c =
-    let e = rw (c .before .before .before .before .array16 .ensures) at (c .before .before .read-record .ensures) in got-done _ _ _ _ _ (c .before .before .before .before .before .before .before .before .before .before .before .before .args .output .now) (sym (c .before .before .before .before .before .before .get-status .ensures) ∙ c .before .before .before .before .before .if1 .left) (e .0) (e .1)
+    let a = c .before .before .before .before .before .before .before .before .before .before .before .before .args in
+    let e = rw (c .before .before .before .before .array16 .ensures) at (c .before .before .read-record .ensures) in
+    got-done (a .kv .now) (a .rbp .now) (a .device-key .now) (a .name .now) (a .offset) (a .output .now) _ _
+    (sym (c .before .before .before .before .before .before .get-status .ensures) ∙ c .before .before .before .before .before .if1 .left) (e .0) (e .1)
 
 pub get-spec : {M : Type 1} → statement M
 get-spec =

@@ -6,8 +6,7 @@ use lib.ListN.{length}
 use borrow.Author.Tests.{eqb-true}
 use borrow.Author.Needs.{needs}
 use Rattle.spec.specs.Status.{ok, refuseIf}
-use Rattle.spec.specs.Calls.{areasSized, areasIntact, guarded, getStatus}
-use Rattle.spec.specs.Binding.{getDecision}
+use Rattle.store.specs.Parts.{areasSized, areasIntact, guarded, getStatus}
 use Rattle.store.proofs.Tests.{is-false, is-true}
 use Rattle.store.proofs.Guards.{stopped, passed, areas-sized, areas-intact, lengths-right, and-right}
 use Rattle.store.proofs.get.get_status.Statement.{statement}
@@ -25,7 +24,7 @@ valid-name-requires : tie.Need-valid-name-requires
 valid-name-requires c κs = search needs
 
 returns-2 : tie.Need-returns-2
-unfolding getStatus getDecision refuseIf
+unfolding getStatus refuseIf
 returns-2 c =
     let e : guarded (areasSized (c .before .before .before .before .before .before .before .before .args .kv .now) (c .before .before .before .before .before .before .before .before .args .rbp .now) && (eqb (length (c .before .before .before .before .before .before .before .before .args .device-key .now)) 16)) (areasIntact (c .before .before .before .before .before .before .before .before .args .kv .now) (c .before .before .before .before .before .before .before .before .args .rbp .now)) ok ≡ 0 = (sym (c .before .before .before .guard-areas .ensures) ∙ c .before .before .if1 .left) in rw (passed (areasSized (c .before .before .before .before .before .before .before .before .args .kv .now) (c .before .before .before .before .before .before .before .before .args .rbp .now) && (eqb (length (c .before .before .before .before .before .before .before .before .args .device-key .now)) 16)) (areasIntact (c .before .before .before .before .before .before .before .before .args .kv .now) (c .before .before .before .before .before .before .before .before .args .rbp .now)) e, is-false (c .before .valid-name .ensures) (c .if2 .taken))
 
@@ -38,7 +37,7 @@ held-status-requires c κs =
     let e : guarded (areasSized (c .before .before .before .before .before .before .before .before .before .args .kv .now) (c .before .before .before .before .before .before .before .before .before .args .rbp .now) && (eqb (length (c .before .before .before .before .before .before .before .before .before .args .device-key .now)) 16)) (areasIntact (c .before .before .before .before .before .before .before .before .before .args .kv .now) (c .before .before .before .before .before .before .before .before .before .args .rbp .now)) ok ≡ 0 = (sym (c .before .before .before .before .guard-areas .ensures) ∙ c .before .before .before .if1 .left) in (areas-sized (c .before .before .before .before .before .before .before .before .before .args .kv .now) (c .before .before .before .before .before .before .before .before .before .args .rbp .now) (eqb (length (c .before .before .before .before .before .before .before .before .before .args .device-key .now)) 16) e, areas-intact (c .before .before .before .before .before .before .before .before .before .args .kv .now) (c .before .before .before .before .before .before .before .before .before .args .rbp .now) (eqb (length (c .before .before .before .before .before .before .before .before .before .args .device-key .now)) 16) e)
 
 returns-3 : tie.Need-returns-3
-unfolding getStatus getDecision refuseIf
+unfolding getStatus refuseIf
 returns-3 c =
     let e : guarded (areasSized (c .before .before .before .before .before .before .before .before .before .before .args .kv .now) (c .before .before .before .before .before .before .before .before .before .before .args .rbp .now) && (eqb (length (c .before .before .before .before .before .before .before .before .before .before .args .device-key .now)) 16)) (areasIntact (c .before .before .before .before .before .before .before .before .before .before .args .kv .now) (c .before .before .before .before .before .before .before .before .before .before .args .rbp .now)) ok ≡ 0 = (sym (c .before .before .before .before .before .guard-areas .ensures) ∙ c .before .before .before .before .if1 .left) in rw (passed (areasSized (c .before .before .before .before .before .before .before .before .before .before .args .kv .now) (c .before .before .before .before .before .before .before .before .before .before .args .rbp .now) && (eqb (length (c .before .before .before .before .before .before .before .before .before .before .args .device-key .now)) 16)) (areasIntact (c .before .before .before .before .before .before .before .before .before .before .args .kv .now) (c .before .before .before .before .before .before .before .before .before .before .args .rbp .now)) e, is-true (c .before .before .before .valid-name .ensures) (c .before .before .if2 .left), ← c .before .array16 .ensures) (c .held-status .ensures)
 

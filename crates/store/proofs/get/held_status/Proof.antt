@@ -4,7 +4,7 @@ use mathlib.Core.Path.{sym, _∙_}
 use borrow.Author.Tests.{not-true, not-false, lt-leb, le-leb}
 use borrow.Author.Needs.{needs}
 use Rattle.spec.specs.Record.{requireIntegrity, requireReplayProtection, flagsOf, macOk}
-use Rattle.spec.specs.Binding.{getHeld, tagMatches}
+use Rattle.spec.specs.Decisions.{getHeld, tagMatches}
 use Rattle.spec.specs.Area.{kvFormat, rbpFormat, lookup}
 use Rattle.spec.specs.Status.{refuseIf}
 use Rattle.store.proofs.Tests.{is-false, is-true, is-none, found}

@@ -7,9 +7,9 @@ use lib.ListN.{length, take, drop}
 use borrow.Author.Needs.{needs}
 use Rattle.records.proofs.Valid.{valid-sized}
 use Rattle.spec.specs.Bytes.{zeros, zeroFill}
-use Rattle.spec.specs.Record.{revision1, dataSizeOf, plaintext}
+use Rattle.spec.specs.Record.{dataSizeOf, plaintext}
 use Rattle.spec.specs.Area.{kvFormat, lookup}
-use Rattle.spec.specs.Binding.{recordOf, readCount, readOutput}
+use Rattle.spec.specs.Decisions.{recordOf, readCount, readOutput}
 use Rattle.spec.proofs.Bytes.{length-zeroFill}
 use Rattle.spec.proofs.Record.{valid-record}
 use Rattle.records.proofs.Sealed.{plaintext-length}
@@ -50,8 +50,8 @@ part-copy-end c =
     let p = (plaintext (c .before .before .before .before .before .before .before .before .args .device-key) (c .before .before .before .before .before .before .before .before .args .name .now) (recordOf (lookup kvFormat (c .before .before .before .before .before .before .before .before .args .kv .now) (c .before .before .before .before .before .before .before .before .args .name .now)))) in
     let count = c .before .least .result in
     let size : c .before .before .record-data-size .result ≡ dataSizeOf r = c .before .before .record-data-size .ensures ∙ ap dataSizeOf (c .before .before .before .before .payload-of .ensures) in
-    let whole : length p ≡ dataSizeOf r = plaintext-length (c .before .before .before .before .before .before .before .before .args .device-key) (c .before .before .before .before .before .before .before .before .args .name .now) r (valid-sized revision1 r (c .before .before .before .before .before .before .before .before .pre .1 .0)) in
-    let small : dataSizeOf r ≤ 480 = valid-record revision1 r (c .before .before .before .before .before .before .before .before .pre .1 .0) .data-size in
+    let whole : length p ≡ dataSizeOf r = plaintext-length (c .before .before .before .before .before .before .before .before .args .device-key) (c .before .before .before .before .before .before .before .before .args .name .now) r (valid-sized r (c .before .before .before .before .before .before .before .before .pre .1 .0)) in
+    let small : dataSizeOf r ≤ 480 = valid-record r (c .before .before .before .before .before .before .before .before .pre .1 .0) .data-size in
     let filled : c .before .before .before .open-record .result ≡ zeroFill 480 p = rw (c .before .before .before .before .payload-of .ensures) at (c .before .before .before .open-record .ensures) in
     let least : count ≡ min (length (c .before .before .before .before .before .before .before .before .args .output .now)) (dataSizeOf r - (c .before .before .before .before .before .before .before .before .args .offset)) = rw size at (c .before .least .ensures) in
     let fits : (c .before .before .before .before .before .before .before .before .args .offset) + count ≤ length p = let i = c .before .before .before .before .before .before .before .before .pre .1 .1 in omega arith in
@@ -70,8 +70,8 @@ returns c =
     let p = (plaintext (c .before .before .before .before .before .before .before .before .before .before .before .before .before .args .device-key) (c .before .before .before .before .before .before .before .before .before .before .before .before .before .args .name .now) (recordOf (lookup kvFormat (c .before .before .before .before .before .before .before .before .before .before .before .before .before .args .kv .now) (c .before .before .before .before .before .before .before .before .before .before .before .before .before .args .name .now)))) in
     let count = c .before .before .before .before .before .before .least .result in
     let size : c .before .before .before .before .before .before .before .record-data-size .result ≡ dataSizeOf r = c .before .before .before .before .before .before .before .record-data-size .ensures ∙ ap dataSizeOf (c .before .before .before .before .before .before .before .before .before .payload-of .ensures) in
-    let whole : length p ≡ dataSizeOf r = plaintext-length (c .before .before .before .before .before .before .before .before .before .before .before .before .before .args .device-key) (c .before .before .before .before .before .before .before .before .before .before .before .before .before .args .name .now) r (valid-sized revision1 r (c .before .before .before .before .before .before .before .before .before .before .before .before .before .pre .1 .0)) in
-    let small : dataSizeOf r ≤ 480 = valid-record revision1 r (c .before .before .before .before .before .before .before .before .before .before .before .before .before .pre .1 .0) .data-size in
+    let whole : length p ≡ dataSizeOf r = plaintext-length (c .before .before .before .before .before .before .before .before .before .before .before .before .before .args .device-key) (c .before .before .before .before .before .before .before .before .before .before .before .before .before .args .name .now) r (valid-sized r (c .before .before .before .before .before .before .before .before .before .before .before .before .before .pre .1 .0)) in
+    let small : dataSizeOf r ≤ 480 = valid-record r (c .before .before .before .before .before .before .before .before .before .before .before .before .before .pre .1 .0) .data-size in
     let filled : c .before .before .before .before .before .before .before .before .open-record .result ≡ zeroFill 480 p = rw (c .before .before .before .before .before .before .before .before .before .payload-of .ensures) at (c .before .before .before .before .before .before .before .before .open-record .ensures) in
     let least : count ≡ min (length (c .before .before .before .before .before .before .before .before .before .before .before .before .before .args .output .now)) (dataSizeOf r - (c .before .before .before .before .before .before .before .before .before .before .before .before .before .args .offset)) = rw size at (c .before .before .before .before .before .before .least .ensures) in
     let fits : (c .before .before .before .before .before .before .before .before .before .before .before .before .before .args .offset) + count ≤ length p = let i = c .before .before .before .before .before .before .before .before .before .before .before .before .before .pre .1 .1 in omega arith in

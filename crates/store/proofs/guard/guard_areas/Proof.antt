@@ -2,7 +2,7 @@
 use borrow.Author.Tests.{not-true, not-false}
 use borrow.Author.Needs.{needs}
 use Rattle.spec.specs.Status.{refuseIf}
-use Rattle.spec.specs.Calls.{guarded}
+use Rattle.store.specs.Parts.{guarded}
 use Rattle.store.proofs.Tests.{is-false, is-true}
 use Rattle.store.proofs.guard.guard_areas.Statement.{statement}
 use Rattle.store.proofs.guard.guard_areas.Tie as tie

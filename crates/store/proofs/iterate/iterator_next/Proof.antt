@@ -6,7 +6,6 @@ use native.Mathlib.Numerals.{add-one}
 use native.Mathlib.Omega.{arith}
 use lib.ListN.{length, drop}
 use borrow.Author.Needs.{needs}
-use Rattle.spec.specs.Calls.{storeIteratorNext}
 use Rattle.store.proofs.Slices.{copied}
 use Rattle.store.proofs.Outcome.{iterator-facts, iterated-refused, iterated-done}
 use Rattle.store.proofs.iterate.iterator_next.Statement.{statement}
@@ -19,8 +18,9 @@ same-length : tie.Need-same-length
 same-length c = search needs
 
 returns : tie.Need-returns
-unfolding storeIteratorNext
-returns c = iterated-refused _ _ _ _ _ (c .before .before .before .before .before .before .before .args .name-buf .now) (c .if1 .taken) (c .before .iterator-status .ensures)
+returns c =
+    let a = c .before .before .before .before .before .before .before .args in
+    iterated-refused (a .kv .now) (a .rbp .now) (a .prefix .now) (a .start-slot) (a .name-buf .now) _ (c .if1 .taken) (c .before .iterator-status .ensures)
 
 next-match-requires : tie.Need-next-match-requires
 next-match-requires c κs =
@@ -42,9 +42,14 @@ same-length-2 : tie.Need-same-length-2
 same-length-2 c = search needs
 
 returns-2 : tie.Need-returns-2
-unfolding storeIteratorNext
 returns-2 c =
-    let e = rw (c .before .before .before .before .before .next-match .ensures) at (c .before .before .before .before .name-at .ensures) in iterated-done _ _ _ _ _ _ _ (c .before .before .before .before .before .before .before .before .before .before .before .before .before .args .name-buf .now) (sym (c .before .before .before .before .before .before .before .iterator-status .ensures) ∙ c .before .before .before .before .before .before .if1 .left) (ap length e) (add-one _ ∙ ap suc (c .before .before .before .before .before .next-match .ensures)) (c .before .before .copy .ensures .1 ∙ copied (c .before .before .before .before .name-at .result .now) (c .before .before .before .before .before .before .before .before .before .before .before .before .before .args .name-buf .now) (length (c .before .before .before .before .name-at .result .now)) refl ∙ ap (λ (l : List ℕ). l ++ drop (length l) (c .before .before .before .before .before .before .before .before .before .before .before .before .before .args .name-buf .now)) e)
+    let a = c .before .before .before .before .before .before .before .before .before .before .before .before .before .args in
+    let at = c .before .before .before .before .before .next-match .ensures in
+    let name = c .before .before .before .before .name-at .result .now in
+    let e = rw at at (c .before .before .before .before .name-at .ensures) in
+    iterated-done (a .kv .now) (a .rbp .now) (a .prefix .now) (a .start-slot) (a .name-buf .now) _ _ _
+    (sym (c .before .before .before .before .before .before .before .iterator-status .ensures) ∙ c .before .before .before .before .before .before .if1 .left) (ap length e) (add-one _ ∙ ap suc at)
+    (c .before .before .copy .ensures .1 ∙ copied name (a .name-buf .now) (length name) refl ∙ ap (λ (l : List ℕ). l ++ drop (length l) (a .name-buf .now)) e)
 
 pub iterator-next-spec : {M : Type 1} → statement M
 iterator-next-spec =

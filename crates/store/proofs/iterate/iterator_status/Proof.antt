@@ -7,7 +7,7 @@ use lib.ListN.{length}
 use borrow.Author.Tests.{lt-ltb, le-ltb}
 use borrow.Author.Needs.{needs}
 use Rattle.spec.specs.Status.{ok, refuseIf}
-use Rattle.spec.specs.Calls.{areasSized, areasIntact, guarded, iteratorStatus}
+use Rattle.store.specs.Parts.{areasSized, areasIntact, guarded, iteratorStatus}
 use Rattle.store.proofs.Tests.{is-false, is-true}
 use Rattle.store.proofs.Guards.{kv-sized, kv-intact, stopped, passed, areas-sized, areas-intact}
 use Rattle.store.proofs.Slices.{slots-length}

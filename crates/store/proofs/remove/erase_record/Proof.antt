@@ -1,7 +1,7 @@
 -- `store::remove::erase_record`: the flags that decide are read before the slot is cleared.
 use mathlib.Core.Path.{sym, _∙_}
 use borrow.Author.Needs.{needs}
-use Rattle.spec.specs.Binding.{removeEffect}
+use Rattle.spec.specs.Decisions.{removeEffect}
 use Rattle.store.proofs.Guards.{kv-sized, rbp-sized, kv-intact, rbp-intact}
 use Rattle.store.proofs.remove.erase_record.Statement.{statement}
 use Rattle.store.proofs.remove.erase_record.Tie as tie

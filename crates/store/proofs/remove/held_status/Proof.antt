@@ -3,7 +3,7 @@ use mathlib.Core.Path.{sym, _∙_}
 use borrow.Author.Needs.{needs}
 use Rattle.spec.specs.Area.{kvFormat, lookup}
 use Rattle.spec.specs.Status.{refuseIf}
-use Rattle.spec.specs.Binding.{removeHeld}
+use Rattle.spec.specs.Decisions.{removeHeld}
 use Rattle.store.proofs.Tests.{is-false, is-true, is-none, found}
 use Rattle.store.proofs.remove.held_status.Statement.{statement}
 use Rattle.store.proofs.remove.held_status.Tie as tie

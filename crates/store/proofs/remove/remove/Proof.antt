@@ -1,12 +1,7 @@
 -- `store::remove::remove`: a refusal leaves both areas, and an accepted remove has its effect on them.
-use mathlib.Core.Path.{sym, ap, _∙_, ap₂}
-use mathlib.Core.List.{List}
-use Prim.Native.Nat.{ℕ}
+use mathlib.Core.Path.{sym, _∙_}
 use borrow.Author.Needs.{needs}
-use Rattle.spec.specs.Binding.{removeEffect}
-use Rattle.spec.specs.Calls.{bindingOf, written, storeRemove}
-use Rattle.store.specs.Answers.{written as outcome}
-use Rattle.store.proofs.Outcome.{left-alone, edited, remove-facts}
+use Rattle.store.proofs.Outcome.{remove-refused, remove-done, remove-facts}
 use Rattle.store.proofs.remove.remove.Statement.{statement}
 use Rattle.store.proofs.remove.remove.Tie as tie
 
@@ -20,8 +15,9 @@ same-length-2 : tie.Need-same-length-2
 same-length-2 c = search needs
 
 returns : tie.Need-returns
-unfolding storeRemove
-returns c = left-alone _ (c .before .before .before .before .before .before .before .args .kv .now) (c .before .before .before .before .before .before .before .args .rbp .now) (c .before .before .before .before .before .before .before .args .name .now) (removeEffect (bindingOf (c .before .before .before .before .before .before .before .args .kv .now) (c .before .before .before .before .before .before .before .args .rbp .now) (c .before .before .before .before .before .before .before .args .name .now))) (c .if1 .taken) ∙ ap (λ (s : ℕ). written s (c .before .before .before .before .before .before .before .args .kv .now) (c .before .before .before .before .before .before .before .args .rbp .now) (c .before .before .before .before .before .before .before .args .name .now) (removeEffect (bindingOf (c .before .before .before .before .before .before .before .args .kv .now) (c .before .before .before .before .before .before .before .args .rbp .now) (c .before .before .before .before .before .before .before .args .name .now)))) (c .before .remove-status .ensures)
+returns c =
+    let a = c .before .before .before .before .before .before .before .args in
+    remove-refused (a .kv .now) (a .rbp .now) (a .name .now) _ (c .if1 .taken) (c .before .remove-status .ensures)
 
 erase-record-requires : tie.Need-erase-record-requires
 erase-record-requires c κs =
@@ -34,9 +30,10 @@ same-length-4 : tie.Need-same-length-4
 same-length-4 c = search needs
 
 returns-2 : tie.Need-returns-2
-unfolding storeRemove
 returns-2 c =
-    let e = c .before .before .before .before .erase-record .ensures in ap₂ (λ (k r : List ℕ). outcome 0 k r) (e .0) (e .1) ∙ edited _ (c .before .before .before .before .before .before .before .before .before .before .before .before .before .before .args .kv .now) (c .before .before .before .before .before .before .before .before .before .before .before .before .before .before .args .rbp .now) (c .before .before .before .before .before .before .before .before .before .before .before .before .before .before .args .name .now) (removeEffect (bindingOf (c .before .before .before .before .before .before .before .before .before .before .before .before .before .before .args .kv .now) (c .before .before .before .before .before .before .before .before .before .before .before .before .before .before .args .rbp .now) (c .before .before .before .before .before .before .before .before .before .before .before .before .before .before .args .name .now))) (sym (c .before .before .before .before .before .before .before .before .remove-status .ensures) ∙ c .before .before .before .before .before .before .before .if1 .left)
+    let a = c .before .before .before .before .before .before .before .before .before .before .before .before .before .before .args in
+    let e = c .before .before .before .before .erase-record .ensures in
+    remove-done (a .kv .now) (a .rbp .now) (a .name .now) _ _ (sym (c .before .before .before .before .before .before .before .before .remove-status .ensures) ∙ c .before .before .before .before .before .before .before .if1 .left) (e .0) (e .1)
 
 pub remove-spec : {M : Type 1} → statement M
 remove-spec =

@@ -1,13 +1,13 @@
 -- `store::set::held_status`: 8, 7, 9 for a known name, 7 for a new one, then 10.
-use mathlib.Core.Path.{_≡_, sym, _∙_}
-use Prim.Native.Nat.{ℕ}
-use borrow.Author.Tests.{eq-eqb, ne-eqb}
+use mathlib.Core.Path.{sym, _∙_}
+use borrow.Author.Tests.{ne-eqb}
 use borrow.Author.Needs.{needs}
-use Rattle.spec.specs.Area.{kvFormat, rbpFormat, lookup}
+use Rattle.spec.specs.Area.{kvFormat, lookup}
 use Rattle.spec.specs.Status.{refuseIf}
-use Rattle.spec.specs.Binding.{setHeld}
+use Rattle.spec.specs.Decisions.{setHeld}
+use Rattle.spec.specs.Calls.{bindingOf, roomOf}
 use Rattle.store.proofs.Guards.{kv-sized, rbp-sized, kv-intact, rbp-intact}
-use Rattle.store.proofs.Tests.{is-false, is-true, is-none, found}
+use Rattle.store.proofs.Tests.{is-false, is-true, is-none, found, known-first, new-first}
 use Rattle.store.proofs.set.held_status.Statement.{statement}
 use Rattle.store.proofs.set.held_status.Tie as tie
 
@@ -49,9 +49,14 @@ space-status-requires : tie.Need-space-status-requires
 space-status-requires c κs = c .before .before .before .before .before .before .before .before .before .before .before .before .before .before .pre
 
 returns-5 : tie.Need-returns-5
-unfolding setHeld refuseIf
 returns-5 c =
-    let pass : (rest : ℕ) → setHeld (c .before .before .before .before .before .before .before .before .before .before .before .before .before .before .before .args .flags) (lookup kvFormat (c .before .before .before .before .before .before .before .before .before .before .before .before .before .before .before .args .kv .now) (c .before .before .before .before .before .before .before .before .before .before .before .before .before .before .before .args .name .now)) (lookup rbpFormat (c .before .before .before .before .before .before .before .before .before .before .before .before .before .before .before .args .rbp .now) (c .before .before .before .before .before .before .before .before .before .before .before .before .before .before .before .args .name .now)) rest ≡ rest = λ rest. rw (found (lookup kvFormat (c .before .before .before .before .before .before .before .before .before .before .before .before .before .before .before .args .kv .now) (c .before .before .before .before .before .before .before .before .before .before .before .before .before .before .before .args .name .now)) _ (sym (c .before .before .before .before .before .before .before .before .before .before .before .has-name .ensures) ∙ c .before .before .before .before .before .before .before .before .before .before .if1 .taken) (c .before .before .before .before .before .before .before .before .before .payload-of .ensures), is-true (c .before .before .before .before .before .before .before .before .record-valid .ensures) (c .before .before .before .before .before .before .before .if2 .left), ← c .before .before .before .before .before .before .record-flags .ensures, sym (c .before .before .before .before .before .write-once .ensures) ∙ c .before .before .before .before .if3 .left, sym (c .before .before .before .write-once2 .ensures) ∙ c .before .before .if4 .left, eq-eqb _ _ (c .before .if5 .left)) in c .space-status .ensures ∙ sym (pass _)
+    let a = c .before .before .before .before .before .before .before .before .before .before .before .before .before .before .before .args in
+    let flags = c .before .before .before .before .before .before .record-flags .ensures in
+    let known = found (lookup kvFormat (a .kv .now) (a .name .now)) _ (sym (c .before .before .before .before .before .before .before .before .before .before .before .has-name .ensures) ∙ c .before .before .before .before .before .before .before .before .before .before .if1 .taken) (c .before .before .before .before .before .before .before .before .before .payload-of .ensures) in
+    c .space-status .ensures
+    ∙ known-first (a .flags) (bindingOf (a .kv .now) (a .rbp .now) (a .name .now)) (roomOf (a .kv .now) (a .rbp .now)) _ known
+    (is-true (c .before .before .before .before .before .before .before .before .record-valid .ensures) (c .before .before .before .before .before .before .before .if2 .left)) (rw (← flags) (sym (c .before .before .before .before .before .write-once .ensures) ∙ c .before .before .before .before .if3 .left))
+    (sym (c .before .before .before .write-once2 .ensures) ∙ c .before .before .if4 .left) (c .before .if5 .left ∙ flags)
 
 write-once-requires-3 : tie.Need-write-once-requires-3
 write-once-requires-3 c κs = search needs
@@ -60,9 +65,12 @@ space-status-requires-2 : tie.Need-space-status-requires-2
 space-status-requires-2 c κs = c .before .before .before .before .before .before .before .pre
 
 returns-6 : tie.Need-returns-6
-unfolding setHeld refuseIf
 returns-6 c =
-    let pass : (rest : ℕ) → setHeld (c .before .before .before .before .before .before .before .before .args .flags) (lookup kvFormat (c .before .before .before .before .before .before .before .before .args .kv .now) (c .before .before .before .before .before .before .before .before .args .name .now)) (lookup rbpFormat (c .before .before .before .before .before .before .before .before .args .rbp .now) (c .before .before .before .before .before .before .before .before .args .name .now)) rest ≡ rest = λ rest. rw (is-none (lookup kvFormat (c .before .before .before .before .before .before .before .before .args .kv .now) (c .before .before .before .before .before .before .before .before .args .name .now)) (sym (c .before .before .before .before .has-name .ensures) ∙ c .before .before .before .if1 .left), is-false (c .before .before .write-once3 .ensures) (c .before .if6 .taken)) in c .space-status2 .ensures ∙ sym (pass _)
+    let a = c .before .before .before .before .before .before .before .before .args in
+    let absent = is-none (lookup kvFormat (a .kv .now) (a .name .now)) (sym (c .before .before .before .before .has-name .ensures) ∙ c .before .before .before .if1 .left) in
+    c .space-status2 .ensures
+    ∙ new-first (a .flags) (bindingOf (a .kv .now) (a .rbp .now) (a .name .now)) (roomOf (a .kv .now) (a .rbp .now)) absent
+    (rw (is-false (c .before .before .write-once3 .ensures) (c .before .if6 .taken)))
 
 has-name-requires-2 : tie.Need-has-name-requires-2
 has-name-requires-2 c κs = (rbp-sized (c .before .before .before .before .before .before .before .args .kv .now) (c .before .before .before .before .before .before .before .args .rbp .now) (c .before .before .before .before .before .before .before .pre .0), rbp-intact (c .before .before .before .before .before .before .before .args .kv .now) (c .before .before .before .before .before .before .before .args .rbp .now) (c .before .before .before .before .before .before .before .pre .1))
@@ -71,9 +79,12 @@ space-status-requires-3 : tie.Need-space-status-requires-3
 space-status-requires-3 c κs = c .before .before .before .before .before .before .before .before .before .pre
 
 returns-7 : tie.Need-returns-7
-unfolding setHeld refuseIf
 returns-7 c =
-    let pass : (rest : ℕ) → setHeld (c .before .before .before .before .before .before .before .before .before .before .args .flags) (lookup kvFormat (c .before .before .before .before .before .before .before .before .before .before .args .kv .now) (c .before .before .before .before .before .before .before .before .before .before .args .name .now)) (lookup rbpFormat (c .before .before .before .before .before .before .before .before .before .before .args .rbp .now) (c .before .before .before .before .before .before .before .before .before .before .args .name .now)) rest ≡ rest = λ rest. rw (is-none (lookup kvFormat (c .before .before .before .before .before .before .before .before .before .before .args .kv .now) (c .before .before .before .before .before .before .before .before .before .before .args .name .now)) (sym (c .before .before .before .before .before .before .has-name .ensures) ∙ c .before .before .before .before .before .if1 .left), is-true (c .before .before .before .before .write-once3 .ensures) (c .before .before .before .if6 .left), is-false (c .before .before .has-name2 .ensures) (c .before .if7 .taken)) in c .space-status3 .ensures ∙ sym (pass _)
+    let a = c .before .before .before .before .before .before .before .before .before .before .args in
+    let absent = is-none (lookup kvFormat (a .kv .now) (a .name .now)) (sym (c .before .before .before .before .before .before .has-name .ensures) ∙ c .before .before .before .before .before .if1 .left) in
+    c .space-status3 .ensures
+    ∙ new-first (a .flags) (bindingOf (a .kv .now) (a .rbp .now) (a .name .now)) (roomOf (a .kv .now) (a .rbp .now)) absent
+    (rw (is-true (c .before .before .before .before .write-once3 .ensures) (c .before .before .before .if6 .left)) (is-false (c .before .before .has-name2 .ensures) (c .before .if7 .taken)))
 
 returns-8 : tie.Need-returns-8
 unfolding setHeld refuseIf

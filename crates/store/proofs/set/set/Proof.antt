@@ -1,12 +1,7 @@
 -- `store::set::set`: a refusal leaves both areas, and an accepted set has its effect on them.
-use mathlib.Core.Path.{sym, ap, _∙_, ap₂}
-use mathlib.Core.List.{List}
-use Prim.Native.Nat.{ℕ}
+use mathlib.Core.Path.{sym, _∙_}
 use borrow.Author.Needs.{needs}
-use Rattle.spec.specs.Binding.{setEffect}
-use Rattle.spec.specs.Calls.{written, storeSet}
-use Rattle.store.specs.Answers.{written as outcome}
-use Rattle.store.proofs.Outcome.{left-alone, edited, set-facts}
+use Rattle.store.proofs.Outcome.{set-refused, set-done, set-facts}
 use Rattle.store.proofs.set.set.Statement.{statement}
 use Rattle.store.proofs.set.set.Tie as tie
 
@@ -20,8 +15,9 @@ same-length-2 : tie.Need-same-length-2
 same-length-2 c = search needs
 
 returns : tie.Need-returns
-unfolding storeSet
-returns c = left-alone _ (c .before .before .before .before .before .before .before .before .before .before .args .kv .now) (c .before .before .before .before .before .before .before .before .before .before .args .rbp .now) (c .before .before .before .before .before .before .before .before .before .before .args .name .now) (setEffect (c .before .before .before .before .before .before .before .before .before .before .args .device-key .now) (c .before .before .before .before .before .before .before .before .before .before .args .name .now) (c .before .before .before .before .before .before .before .before .before .before .args .flags) (c .before .before .before .before .before .before .before .before .before .before .args .iv .now) (c .before .before .before .before .before .before .before .before .before .before .args .«data» .now)) (c .if1 .taken) ∙ ap (λ (s : ℕ). written s (c .before .before .before .before .before .before .before .before .before .before .args .kv .now) (c .before .before .before .before .before .before .before .before .before .before .args .rbp .now) (c .before .before .before .before .before .before .before .before .before .before .args .name .now) (setEffect (c .before .before .before .before .before .before .before .before .before .before .args .device-key .now) (c .before .before .before .before .before .before .before .before .before .before .args .name .now) (c .before .before .before .before .before .before .before .before .before .before .args .flags) (c .before .before .before .before .before .before .before .before .before .before .args .iv .now) (c .before .before .before .before .before .before .before .before .before .before .args .«data» .now))) (c .before .set-status .ensures)
+returns c =
+    let a = c .before .before .before .before .before .before .before .before .before .before .args in
+    set-refused (a .kv .now) (a .rbp .now) (a .device-key .now) (a .name .now) (a .flags) (a .iv .now) (a .«data» .now) _ (c .if1 .taken) (c .before .set-status .ensures)
 
 array16-requires : tie.Need-array16-requires
 array16-requires c κs = set-facts (c .before .before .before .before .before .before .before .before .before .before .before .before .args .kv .now) (c .before .before .before .before .before .before .before .before .before .before .before .before .args .rbp .now) (c .before .before .before .before .before .before .before .before .before .before .before .before .args .device-key .now) (c .before .before .before .before .before .before .before .before .before .before .before .before .args .name .now) (c .before .before .before .before .before .before .before .before .before .before .before .before .args .flags) (c .before .before .before .before .before .before .before .before .before .before .before .before .args .iv .now) (c .before .before .before .before .before .before .before .before .before .before .before .before .args .«data» .now) (sym (c .before .before .before .set-status .ensures) ∙ c .before .before .if1 .left) .key-length
@@ -40,9 +36,11 @@ same-length-4 : tie.Need-same-length-4
 same-length-4 c = search needs
 
 returns-2 : tie.Need-returns-2
-unfolding storeSet
 returns-2 c =
-    let e = rw (c .before .before .before .before .before .before .array16 .ensures, c .before .before .before .before .before .array8 .ensures) at (c .before .before .before .before .write-record .ensures) in ap₂ (λ (k r : List ℕ). outcome 0 k r) (e .0) (e .1) ∙ edited _ (c .before .before .before .before .before .before .before .before .before .before .before .before .before .before .before .before .before .before .before .args .kv .now) (c .before .before .before .before .before .before .before .before .before .before .before .before .before .before .before .before .before .before .before .args .rbp .now) (c .before .before .before .before .before .before .before .before .before .before .before .before .before .before .before .before .before .before .before .args .name .now) (setEffect (c .before .before .before .before .before .before .before .before .before .before .before .before .before .before .before .before .before .before .before .args .device-key .now) (c .before .before .before .before .before .before .before .before .before .before .before .before .before .before .before .before .before .before .before .args .name .now) (c .before .before .before .before .before .before .before .before .before .before .before .before .before .before .before .before .before .before .before .args .flags) (c .before .before .before .before .before .before .before .before .before .before .before .before .before .before .before .before .before .before .before .args .iv .now) (c .before .before .before .before .before .before .before .before .before .before .before .before .before .before .before .before .before .before .before .args .«data» .now)) (sym (c .before .before .before .before .before .before .before .before .before .before .set-status .ensures) ∙ c .before .before .before .before .before .before .before .before .before .if1 .left)
+    let a = c .before .before .before .before .before .before .before .before .before .before .before .before .before .before .before .before .before .before .before .args in
+    let e = rw (c .before .before .before .before .before .before .array16 .ensures, c .before .before .before .before .before .array8 .ensures) at (c .before .before .before .before .write-record .ensures) in
+    set-done (a .kv .now) (a .rbp .now) (a .device-key .now) (a .name .now) (a .flags) (a .iv .now) (a .«data» .now) _ _
+    (sym (c .before .before .before .before .before .before .before .before .before .before .set-status .ensures) ∙ c .before .before .before .before .before .before .before .before .before .if1 .left) (e .0) (e .1)
 
 pub set-spec : {M : Type 1} → statement M
 set-spec =

@@ -2,7 +2,6 @@
 use mathlib.Core.Path.{sym, _∙_}
 use borrow.Author.Needs.{needs}
 use Rattle.spec.specs.Status.{refuseIf}
-use Rattle.spec.specs.Binding.{lacksSpace}
 use Rattle.store.proofs.Guards.{kv-sized, rbp-sized, kv-intact, rbp-intact}
 use Rattle.store.proofs.Tests.{is-false, is-true}
 use Rattle.store.proofs.set.space_status.Statement.{statement}
@@ -12,25 +11,25 @@ lacks-slot-requires : tie.Need-lacks-slot-requires
 lacks-slot-requires c κs = (kv-sized (c .before .before .before .args .kv .now) (c .before .before .before .args .rbp .now) (c .before .before .before .pre .0), kv-intact (c .before .before .before .args .kv .now) (c .before .before .before .args .rbp .now) (c .before .before .before .pre .1))
 
 returns : tie.Need-returns
-unfolding lacksSpace refuseIf
+unfolding refuseIf
 returns c = rw (sym (c .before .lacks-slot .ensures) ∙ c .if1 .taken)
 
 require-replay-protection-requires : tie.Need-require-replay-protection-requires
 require-replay-protection-requires c κs = search needs
 
 returns-2 : tie.Need-returns-2
-unfolding lacksSpace refuseIf
+unfolding refuseIf
 returns-2 c = rw (sym (c .before .before .before .lacks-slot .ensures) ∙ c .before .before .if1 .left, is-false (c .before .require-replay-protection .ensures) (c .if2 .taken))
 
 lacks-slot-requires-2 : tie.Need-lacks-slot-requires-2
 lacks-slot-requires-2 c κs = (rbp-sized (c .before .before .before .before .before .before .before .args .kv .now) (c .before .before .before .before .before .before .before .args .rbp .now) (c .before .before .before .before .before .before .before .pre .0), rbp-intact (c .before .before .before .before .before .before .before .args .kv .now) (c .before .before .before .before .before .before .before .args .rbp .now) (c .before .before .before .before .before .before .before .pre .1))
 
 returns-3 : tie.Need-returns-3
-unfolding lacksSpace refuseIf
+unfolding refuseIf
 returns-3 c = rw (sym (c .before .before .before .before .before .lacks-slot .ensures) ∙ c .before .before .before .before .if1 .left, is-true (c .before .before .before .require-replay-protection .ensures) (c .before .before .if2 .left), sym (c .before .lacks-slot2 .ensures) ∙ c .if3 .taken)
 
 returns-4 : tie.Need-returns-4
-unfolding lacksSpace refuseIf
+unfolding refuseIf
 returns-4 c = rw (sym (c .before .before .before .before .before .lacks-slot .ensures) ∙ c .before .before .before .before .if1 .left, is-true (c .before .before .before .require-replay-protection .ensures) (c .before .before .if2 .left), sym (c .before .lacks-slot2 .ensures) ∙ c .if3 .left)
 
 pub space-status-spec : {M : Type 1} → statement M

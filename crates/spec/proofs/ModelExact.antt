@@ -1,0 +1,119 @@
+-- The steps of demand 3 are the calls; and the reference model keeps demand 2's rules.
+use mathlib.Core.Path.{_≡_, refl, sym, ap, _∙_}
+use mathlib.Core.Logic.{_≢_}
+use mathlib.Core.Bool.{cond}
+use mathlib.Core.List.{List, _++_}
+use mathlib.Core.Option.{none, some}
+use Prim.Native.Nat.{ℕ}
+use borrow.Author.Tests.{eqb-true}
+use lib.ListN.{length}
+use Rattle.spec.specs.Status.{ok, firstOf}
+use Rattle.spec.specs.Name.{Name}
+use Rattle.spec.specs.Record.{requireReplayProtection, flagsOf, tagOf, metadata, encKey, authKey, crypt, recordCmac, sealedIv, sealedData, sealedTag, sealRecord, plaintext, Sealable}
+use Rattle.spec.specs.Area.{kvFormat, rbpFormat, keep, write, clear}
+use Rattle.spec.specs.Request.{Effect, statusOf, run}
+use Rattle.spec.specs.Decisions.{recordOf, setHeld, setEffect, readCount, readOutput, removeEffect}
+use Rattle.spec.specs.Calls.{areas, areaLengths, areaDamage, bindingOf, roomOf, storeWorld, storeSet, storeGet, storeGetInfo, storeRemove}
+use Rattle.spec.specs.Model.{Call, setCall, getCall, getInfoCall, removeCall, requestOf, callName, Model, modelBinding, modelEdit, modelWorld}
+use Rattle.spec.specs.Demand2.{Undamaged, FreeSlot, recordMade, tagMade}
+use Rattle.spec.specs.Demand3.{StepIsCall, after, reply, ModelSets, ModelRemoves, ModelExact}
+use Rattle.spec.proofs.Split.{not-false-is}
+use Rattle.spec.proofs.Area.{editOption}
+use Rattle.spec.proofs.Status.{all-passed, past, under, by-status}
+use Rattle.spec.proofs.Record.{sealed-tag}
+use Rattle.spec.proofs.World.{lengths-passed, damage-passed, run-done, run-refused, after-done, after-refused}
+use Rattle.spec.proofs.Decision.{decided, decided-sealable}
+use Rattle.spec.proofs.Set.{has-space}
+use Rattle.spec.proofs.Model.{table-same, table-other, model-start}
+use Rattle.spec.proofs.Lawful.{enough}
+
+pub step-is-call : (kv rbp key name : List ℕ) (flags offset : ℕ) (iv value output : List ℕ) → StepIsCall kv rbp key name flags offset iv value output
+unfolding storeSet storeGet storeGetInfo storeRemove
+step-is-call kv rbp key name flags offset iv value output = record {
+  of-set = refl;
+  of-get = refl;
+  of-getInfo = refl;
+  of-remove = refl;
+  each = (refl, refl, refl);
+}
+
+edit-other : (m : Model) (n name : Name) (x : Effect) → n ≢ name → modelBinding (modelEdit m name x) n ≡ modelBinding m n
+edit-other m n name x h = rw (table-other (m .records) n name (x .kv) h, table-other (m .tags) n name (x .rbp) h)
+
+others : (m : Model) (c : Call) (n : Name) → n ≢ callName c → after m c n ≡ modelBinding m n
+others m c n h = by-status (statusOf modelWorld m (requestOf c))
+    (λ e. rw (after-done modelWorld m (requestOf c) e) (edit-other m n (callName c) (requestOf c .effect (modelBinding m (callName c))) h))
+    (λ e. rw (after-refused modelWorld m (requestOf c) e))
+
+-- a store with room, that has the same of the name
+as-store : (m : Model) (c : Call) (kv rbp : List ℕ) → Undamaged kv rbp → FreeSlot kvFormat kv → FreeSlot rbpFormat rbp
+    → bindingOf kv rbp (callName c) ≡ modelBinding m (callName c) → reply m c ≡ run storeWorld (areas kv rbp) (requestOf c) .answer
+as-store m c kv rbp u f g e =
+    let q = requestOf c in
+    let s = areas kv rbp in
+    let tests = q .tests (bindingOf kv rbp (callName c)) (roomOf kv rbp) in
+    let own : statusOf storeWorld s q ≡ firstOf (q .early ++ tests) =
+    past (areaLengths s) (q .early ++ (areaDamage s ++ tests)) (lengths-passed s u) ∙ under (q .early) (areaDamage s ++ tests) tests (past (areaDamage s) tests (damage-passed s u)) in
+    let same : statusOf modelWorld m q ≡ statusOf storeWorld s q = sym (own ∙ rw (has-space kvFormat kv f, has-space rbpFormat rbp g, e)) in
+    rw (same, e)
+
+-- ---- what is done
+
+module _ (m : Model) (key name : List ℕ) (flags : ℕ) (iv value : List ℕ) (h : reply m (setCall key name flags iv value) .status ≡ ok) where
+  abbrev c : Call
+  c = setCall key name flags iv value
+
+  abbrev sealed : List ℕ
+  sealed = sealRecord key name flags iv value
+
+  ready : Sealable flags iv value
+  unfolding setHeld
+  ready =
+      let b = modelBinding m name in
+      let p = all-passed (requestOf c .early ++ requestOf c .tests b enough) refl h in
+      let i = eqb-true (length iv) 8 (not-false-is _ (p .1 .0)) in
+      decided-sealable requireReplayProtection name flags value b enough iv (decided requireReplayProtection name flags value b enough (p .1 .1)) i
+
+  stored-in : after m c name .stored ≡ some (recordMade key name flags iv value)
+  unfolding setEffect sealRecord metadata sealedIv sealedData sealedTag recordCmac authKey crypt encKey
+  stored-in = ap (λ (x : Model). modelBinding x name .stored) (after-done modelWorld m (requestOf c) h) ∙ table-same (m .records) name (write sealed)
+
+  tag-edit : after m c name .tag ≡ editOption (cond (requireReplayProtection flags) (write (tagOf sealed)) keep) (modelBinding m name .tag)
+  unfolding setEffect
+  tag-edit = ap (λ (x : Model). modelBinding x name .tag) (after-done modelWorld m (requestOf c) h)
+      ∙ table-same (m .tags) name (cond (requireReplayProtection flags) (write (tagOf sealed)) keep)
+
+  tag-is : tagOf sealed ≡ tagMade key name flags iv value
+  unfolding metadata sealedIv sealedData sealedTag recordCmac authKey crypt encKey
+  tag-is = sealed-tag key name flags iv value ready
+
+  sets : ModelSets m key name flags iv value (after m c name)
+  sets = record { stored = stored-in; tag = λ e. tag-edit ∙ rw e (ap some tag-is); tag-kept = λ e. tag-edit ∙ rw e }
+
+module _ (m : Model) (name r : List ℕ) (h : reply m (removeCall name) .status ≡ ok) (held : modelBinding m name .stored ≡ some r) where
+  stored-out : after m (removeCall name) name .stored ≡ none
+  unfolding removeEffect
+  stored-out = ap (λ (x : Model). modelBinding x name .stored) (after-done modelWorld m (requestOf (removeCall name)) h) ∙ table-same (m .records) name clear
+
+  tag-out : after m (removeCall name) name .tag ≡ editOption (cond (requireReplayProtection (flagsOf r)) clear keep) (modelBinding m name .tag)
+  unfolding removeEffect
+  tag-out = ap (λ (x : Model). modelBinding x name .tag) (after-done modelWorld m (requestOf (removeCall name)) h)
+      ∙ table-same (m .tags) name (cond (requireReplayProtection (flagsOf (recordOf (modelBinding m name .stored)))) clear keep) ∙ rw held
+
+  removes : ModelRemoves m name r (after m (removeCall name) name)
+  removes = record { stored = stored-out; tag = λ e. tag-out ∙ rw e; tag-kept = λ e. tag-out ∙ rw e }
+
+pub model-exact : ModelExact
+unfolding readCount readOutput plaintext crypt encKey
+model-exact = record {
+  starts = λ kv rbp name. sym (model-start kv rbp name);
+  answers-as = as-store;
+  refused = λ m c h. after-refused modelWorld m (requestOf c) h;
+  refused-info = λ m key name h. ap (λ o. o .answer) (run-refused modelWorld m (requestOf (getInfoCall key name)) h);
+  refused-get = λ m key name offset output h. ap (λ o. o .answer) (run-refused modelWorld m (requestOf (getCall key name offset output)) h);
+  others = others;
+  sets = sets;
+  removes = removes;
+  gets = λ m key name offset output r h held. run-done modelWorld m (requestOf (getCall key name offset output)) h ∙ rw held;
+  infos = λ m key name r h held. run-done modelWorld m (requestOf (getInfoCall key name)) h ∙ rw held;
+}
