@@ -1,4 +1,5 @@
 pub mod Xor
+pub mod Figure
 pub mod Words
 pub mod CtrLaws
 pub mod Lengths

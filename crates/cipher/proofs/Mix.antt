@@ -1,18 +1,19 @@
 -- Bounds of the substitution, and a mixed column as the sum of its bytes' parts. Assumes nothing.
-use mathlib.Core.Path.{_≡_, refl, ap₂, _∙_}
+use mathlib.Core.Path.{_≡_, refl, ap, ap₂, _∙_}
 use mathlib.Core.Bool.{Bool, true, false, cond}
 use Prim.Native.Nat.{ℕ, _+_, _-_, _*_, _^_, _≤_, _<_}
 use native.Mathlib.Nat.{mod-lt, zero-lt-suc, zero-add}
 use native.Mathlib.Omega.{arith}
 use lib.Bits.{bitXor, xor-lt, xor-comm, xor-block}
 use lib.Dec.{ltb, lit<}
+use lib.ListN.{getD, List·getD-map}
 use borrow.Author.Tests.{ltb-true, ltb-false}
 use Rattle.cipher.specs.Field.{xtime}
-use Rattle.cipher.specs.Sbox.{subByte, affine, affineBit}
-use Rattle.cipher.specs.Tables.{mixWord, mixEntry}
-use Rattle.cipher.specs.Aes.{numberWord, xorWord, rotWord, mixColumn, mixByte}
+use Rattle.cipher.specs.Sbox.{subByte, affine, affineBit, sbox}
+use Rattle.cipher.specs.Tables.{mixWord, mixEntry, mixTable}
+use Rattle.cipher.specs.Aes.{numberWord, wordNumber, xorWord, rotWord, mixColumn, mixByte}
 use Rattle.cipher.proofs.Xor.{xor-assoc}
-use Rattle.cipher.proofs.Words.{number-word, number-xor, word-ext}
+use Rattle.cipher.proofs.Words.{sbox-at, number-word, number-xor, word-ext}
 
 pub bit-lt : (b i : ℕ) → affineBit b i < 2
 unfolding affineBit
@@ -38,13 +39,14 @@ pub xtime-lt : (b : ℕ) → b < 256 → xtime b < 256
 unfolding xtime
 xtime-lt b h = xtime-cases b (ltb b 128) refl h
 
-pub number-entry : (b : ℕ) → numberWord (mixEntry b) ≡ mixWord (subByte b)
+-- an entry of the table, from that of the S-box
+pub mix-at : (b : ℕ) → b < 256 → getD mixTable b 0 ≡ mixEntry (subByte b)
+unfolding mixTable mixEntry mixWord wordNumber xtime
+mix-at b h = List·getD-map mixEntry sbox b 0 ∙ ap mixEntry (sbox-at b h)
+
+pub number-entry : (s : ℕ) → s < 256 → numberWord (mixEntry s) ≡ mixWord s
 unfolding mixEntry mixWord
-number-entry b =
-    let s = subByte b in
-    let h = sub-lt b in
-    let k = xtime-lt s h in
-    number-word _ k h h (xor-lt 8 (xtime s) s k h)
+number-entry s h = let k = xtime-lt s h in number-word _ k h h (xor-lt 8 (xtime s) s k h)
 
 -- four terms, the first put last
 cycle : (a b c d : ℕ) → bitXor (bitXor (bitXor a b) c) d ≡ bitXor (bitXor (bitXor b c) d) a

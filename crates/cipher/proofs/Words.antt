@@ -1,4 +1,4 @@
--- Words and the 32-bit numbers that hold them, and the tables' entries. Assumes nothing.
+-- Words and the 32-bit numbers that hold them, and the S-box's entries. Assumes nothing.
 use mathlib.Core.Path.{_≡_, refl, sym, ap, _∙_}
 use Prim.Native.Nat.{ℕ, zero, suc, _+_, _*_, _/_, _%_, _^_, _<_}
 use native.Mathlib.Nat.{add-zero, zero-add, le-of-suc-le-suc, not-suc-le-zero, div-div-eq-div-mul}
@@ -6,7 +6,6 @@ use native.Mathlib.Omega.{arith}
 use lib.Bits.{bitXor, xor-shr, xor-mod}
 use lib.ListN.{getD}
 use Rattle.cipher.specs.Sbox.{subByte, sbox, tableFrom}
-use Rattle.cipher.specs.Tables.{mixTable, mixEntry}
 use Rattle.cipher.specs.Aes.{Word, State, numberWord, wordNumber, xorWord}
 
 pub table-at : (f : ℕ → ℕ) (n i k : ℕ) → k < n → getD (tableFrom f n i) k 0 ≡ f (i + k)
@@ -18,10 +17,6 @@ table-at f (suc n) i (suc k) h = table-at f n (suc i) k (le-of-suc-le-suc h) ∙
 pub sbox-at : (b : ℕ) → b < 256 → getD sbox b 0 ≡ subByte b
 unfolding sbox
 sbox-at b h = table-at subByte 256 0 b h ∙ ap subByte (zero-add b)
-
-pub mix-at : (b : ℕ) → b < 256 → getD mixTable b 0 ≡ mixEntry b
-unfolding mixTable
-mix-at b h = table-at mixEntry 256 0 b h ∙ ap mixEntry (zero-add b)
 
 pub word-ext : {v w : Word} → v .b0 ≡ w .b0 → v .b1 ≡ w .b1 → v .b2 ≡ w .b2 → v .b3 ≡ w .b3 → v ≡ w
 word-ext p q r s = λ i. record { b0 = p i; b1 = q i; b2 = r i; b3 = s i }
