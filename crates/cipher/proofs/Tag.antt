@@ -14,7 +14,8 @@ use Rattle.cipher.specs.declared.cmac.CmacState.{CmacState}
 use Rattle.cipher.specs.Aes.{encryptWith, expandKey}
 use Rattle.cipher.specs.Cmac.{xorBytes, subkey1, subkey2, lastBlock, chain, before, cmacOver, cmac}
 use Rattle.cipher.specs.CmacState.{keyed, begun, clamped, xorAt, fedByte, fed, closedBlock, finished}
-use Rattle.cipher.specs.Laws.{TagOfParts}
+use Rattle.cipher.specs.Kdf.{kdf}
+use Rattle.cipher.specs.Laws.{TagOfParts, OneShot}
 use Rattle.cipher.proofs.Xor.{xor-assoc}
 use Rattle.cipher.proofs.Cases.{by-test}
 use Rattle.cipher.proofs.Lengths.{with-length}
@@ -136,7 +137,7 @@ tag-over key m =
     finish-block (fed (keyed key) m) (expandKey key) (fed-keys (keyed key) m)
     ∙ ap (encryptWith (expandKey key)) (tag-blocks (expandKey key) ((length m - 1) / 16) (replicate 16 0) m refl refl)
 
-pub tag-whole : (key m : List ℕ) → ((i : ℕ) → getD key i 0 < 256) → finished (fed (keyed key) m) .block ≡ cmac key m
+tag-whole : (key m : List ℕ) → ((i : ℕ) → getD key i 0 < 256) → finished (fed (keyed key) m) .block ≡ cmac key m
 unfolding cmac
 tag-whole key m h = tag-over key m ∙ ap (λ (f : List ℕ → List ℕ). cmacOver f m) (fun-ext (encrypt-expanded key h))
 
@@ -146,3 +147,19 @@ tag-of-parts key bytes s e parts =
     ap (λ (t : CmacState). finished t .block)
     (ap (λ (ks : List ℕ). foldl fed (state (replicate 16 0) 0 ks) parts) e ∙ feed-parts (keyed key) parts (omega arith))
     ∙ tag-whole key (flatten parts) bytes
+
+-- the parts in turn, from a state that is made for the key
+from-keyed : (key : List ℕ) → ((i : ℕ) → getD key i 0 < 256) → (parts : List (List ℕ))
+    → cmac key (flatten parts) ≡ finished (foldl fed (begun (keyed key)) parts) .block
+unfolding keyed
+from-keyed key bytes parts = sym (tag-of-parts key bytes (keyed key) refl parts)
+
+pub one-shot-law : OneShot
+unfolding kdf flatten
+one-shot-law = record {
+  whole = λ key bytes m. ap (cmac key) (sym (append-nil m)) ∙ from-keyed key bytes (m ∷ []);
+  parts = λ key bytes a b. ap (λ (l : List ℕ). cmac key (a ++ l)) (sym (append-nil b)) ∙ from-keyed key bytes (a ∷ b ∷ []);
+  label = λ key bytes a b.
+      let end : List ℕ = 0 ∷ 0 ∷ 0 ∷ 0 ∷ 0x80 ∷ [] in
+      ap (λ (l : List ℕ). cmac key (1 ∷ l)) (append-assoc a b end) ∙ from-keyed key bytes ((1 ∷ []) ∷ a ∷ b ∷ end ∷ []);
+}

@@ -1,13 +1,13 @@
 -- Every statement of `specs/Laws`, with its proof. This is all of `proofs` that other crates use.
 use Rattle.cipher.specs.Laws.{FieldLaw, InverseLaw, SboxLaw, ExpandedKey, DoubleLaw, CmacLaw}
-use Rattle.cipher.specs.Laws.{StateLaw, FeedAppend, TagOfParts, KeysKept, FullBlock, BigEndian, CtrLaw, CtrTwice, DerivationLaw, LengthLaw}
+use Rattle.cipher.specs.Laws.{StateLaw, FeedAppend, TagOfParts, OneShot, KeysKept, FullBlock, BigEndian, CtrLaw, CtrTwice, DerivationLaw, LengthLaw}
 use Rattle.cipher.proofs.Product.{field-law}
 use Rattle.cipher.proofs.Inverse.{inverse-law}
 use Rattle.cipher.proofs.Rule.{sbox-law}
 use Rattle.cipher.proofs.Expanded.{encrypt-expanded}
 use Rattle.cipher.proofs.Chain.{double-law, cmac-law}
 use Rattle.cipher.proofs.Feeds.{state-law, feed-append, keys-kept, full-block}
-use Rattle.cipher.proofs.Tag.{tag-of-parts}
+use Rattle.cipher.proofs.Tag.{tag-of-parts, one-shot-law}
 use Rattle.cipher.proofs.CtrLaws.{big-endian, ctr-law, ctr-twice}
 use Rattle.cipher.proofs.Derivation.{derivation-law}
 use Rattle.cipher.proofs.Lengths.{length-law}
@@ -38,6 +38,9 @@ division = feed-append
 
 pub tag : TagOfParts
 tag = tag-of-parts
+
+pub one-shot : OneShot
+one-shot = one-shot-law
 
 pub keys : KeysKept
 keys = keys-kept

@@ -92,6 +92,15 @@ abbrev pub TagOfParts : Type 0
 TagOfParts = (key : List ℕ) → ((i : ℕ) → getD key i 0 < 256) → (s : CmacState) → s .keys ≡ expandKey key → (parts : List (List ℕ))
     → finished (foldl fed (begun s) parts) .block ≡ cmac key (flatten parts)
 
+-- What `cmac_tag`, `cmac_tag_parts` and `kdf_counter_cmac` promise is the tag of a state for the key that is begun, fed the parts and finished.
+pub record OneShot : Type 0 where
+  pub whole : (key : List ℕ) → ((i : ℕ) → getD key i 0 < 256) → (m : List ℕ) → cmac key m ≡ finished (fed (begun (keyed key)) m) .block
+  pub parts : (key : List ℕ) → ((i : ℕ) → getD key i 0 < 256) → (a b : List ℕ)
+      → cmac key (a ++ b) ≡ finished (fed (fed (begun (keyed key)) a) b) .block
+  pub label : (key : List ℕ) → ((i : ℕ) → getD key i 0 < 256) → (a b : List ℕ)
+      → let labelled = fed (fed (fed (begun (keyed key)) (0x01 ∷ [])) a) b in
+      kdf key (a ++ b) ≡ finished (fed labelled (0x00 ∷ 0x00 ∷ 0x00 ∷ 0x00 ∷ 0x80 ∷ [])) .block
+
 -- a state stands for its key to the end, so that it can begin again
 pub record KeysKept : Type 0 where
   pub in-fed : (s : CmacState) (m : List ℕ) → fed s m .keys ≡ s .keys

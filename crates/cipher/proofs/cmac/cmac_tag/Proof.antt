@@ -1,15 +1,13 @@
--- `cipher::cmac::cmac_tag`: the finished block is the tag of the whole message.
-use mathlib.Core.Path.{ap, _∙_}
+-- `cipher::cmac::cmac_tag`: a state is made for the key, fed and finished, which `OneShot` is about.
+use mathlib.Core.Path.{_≡_, sym, ap, _∙_}
 use mir.Syntax.{w8}
 use borrow.Author.Needs.{needs}
 use Rattle.cipher.specs.declared.cmac.CmacState.{CmacState}
-use Rattle.cipher.specs.CmacState.{fed, finished}
+use Rattle.cipher.specs.CmacState.{keyed, begun, fed, finished}
 use Rattle.cipher.proofs.Arrays.{array-fits}
-use Rattle.cipher.proofs.Tag.{tag-whole}
+use Rattle.cipher.proofs.Tag.{one-shot-law}
 use Rattle.cipher.proofs.cmac.cmac_tag.Statement.{statement}
 use Rattle.cipher.proofs.cmac.cmac_tag.Tie as tie
-
--- `cipher::cmac::cmac_tag`: the finished block is the tag of the whole message.
 
 mix-table-requires : tie.Need-mix-table-requires
 mix-table-requires c κs = search needs
@@ -27,12 +25,16 @@ close-requires : tie.Need-close-requires
 close-requires c κs = search needs
 
 returns : tie.Need-returns
+unfolding begun keyed
 returns c =
-    let start = c .before .before .before .before .before .before .before .before .before .before .before in
+    let absorbed = c .before .before .before .before in
+    let made = absorbed .before .before .before in
+    let start = made .before .before .before .before in
+    let key = start .args .key in
     let m = start .args .message .now in
-    ap (λ (s : CmacState). s .block)
-    (c .before .close .ensures ∙ ap finished (c .before .before .before .before .absorb .ensures ∙ ap (λ (s : CmacState). fed s m) (c .before .before .before .before .before .before .before .keyed .ensures)))
-    ∙ tag-whole (start .args .key) m (array-fits w8 16 (start .args .key) _ (start .good .0))
+    let all : absorbed .absorb .result ≡ fed (keyed key) m = absorbed .absorb .ensures ∙ ap (λ (s : CmacState). fed s m) (made .keyed .ensures) in
+    ap (λ (s : CmacState). s .block) (c .before .close .ensures ∙ ap finished all)
+    ∙ sym (one-shot-law .whole key (array-fits w8 16 key _ (start .good .0)) m)
 
 pub cmac-tag-spec : {M : Type 1} → statement M
 cmac-tag-spec =

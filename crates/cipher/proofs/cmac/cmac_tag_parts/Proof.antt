@@ -1,13 +1,11 @@
--- `cipher::cmac::cmac_tag_parts`: two feeds are one of the whole message.
-use mathlib.Core.Path.{ap, _∙_}
-use mathlib.Core.List.{_++_}
+-- `cipher::cmac::cmac_tag_parts`: a state is made for the key, fed twice and finished, which `OneShot` is about.
+use mathlib.Core.Path.{_≡_, sym, ap, _∙_}
 use mir.Syntax.{w8}
 use borrow.Author.Needs.{needs}
 use Rattle.cipher.specs.declared.cmac.CmacState.{CmacState}
-use Rattle.cipher.specs.CmacState.{keyed, fed, finished}
+use Rattle.cipher.specs.CmacState.{keyed, begun, fed, finished}
 use Rattle.cipher.proofs.Arrays.{array-fits}
-use Rattle.cipher.proofs.Feeds.{feed-append}
-use Rattle.cipher.proofs.Tag.{tag-whole}
+use Rattle.cipher.proofs.Tag.{one-shot-law}
 use Rattle.cipher.proofs.cmac.cmac_tag_parts.Statement.{statement}
 use Rattle.cipher.proofs.cmac.cmac_tag_parts.Tie as tie
 
@@ -30,11 +28,19 @@ close-requires : tie.Need-close-requires
 close-requires c κs = search needs
 
 returns : tie.Need-returns
-returns c = let k = c .before .before .before .before .before .before .before .before .before .before .before .before .before .before .before .args .key in
-    let a = c .before .before .before .before .before .before .before .before .before .before .before .before .before .before .before .args .first .now in
-    let b = c .before .before .before .before .before .before .before .before .before .before .before .before .before .before .before .args .second .now in
-    let fed-both = c .before .before .before .before .absorb2 .ensures ∙ ap (λ (s : CmacState). fed s b) (c .before .before .before .before .before .before .before .absorb .ensures ∙ ap (λ (s : CmacState). fed s a) (c .before .before .before .before .before .before .before .before .before .before .keyed .ensures)) ∙ feed-append (keyed k) a b in
-    ap (λ (s : CmacState). s .block) (c .before .close .ensures ∙ ap finished fed-both) ∙ tag-whole k (a ++ b) (array-fits w8 16 k _ (c .before .before .before .before .before .before .before .before .before .before .before .before .before .before .before .good .0))
+unfolding begun keyed
+returns c =
+    let both = c .before .before .before .before in
+    let one = both .before .before .before in
+    let made = one .before .before .before in
+    let start = made .before .before .before .before .before in
+    let key = start .args .key in
+    let a = start .args .first .now in
+    let b = start .args .second .now in
+    let e₁ : one .absorb .result ≡ fed (keyed key) a = one .absorb .ensures ∙ ap (λ (s : CmacState). fed s a) (made .keyed .ensures) in
+    let e₂ : both .absorb2 .result ≡ fed (fed (keyed key) a) b = both .absorb2 .ensures ∙ ap (λ (s : CmacState). fed s b) e₁ in
+    ap (λ (s : CmacState). s .block) (c .before .close .ensures ∙ ap finished e₂)
+    ∙ sym (one-shot-law .parts key (array-fits w8 16 key _ (start .good .0)) a b)
 
 pub cmac-tag-parts-spec : {M : Type 1} → statement M
 cmac-tag-parts-spec =

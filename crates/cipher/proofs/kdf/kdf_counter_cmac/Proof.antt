@@ -1,19 +1,15 @@
--- `cipher::kdf::kdf_counter_cmac`: the four feeds together are the message of SP 800-108.
-use mathlib.Core.Path.{_≡_, ap, _∙_}
-use mathlib.Core.List.{List, [], _∷_, _++_}
+-- `cipher::kdf::kdf_counter_cmac`: a state is made for the key, fed four times and finished, which `OneShot` is about.
+use mathlib.Core.Path.{_≡_, sym, ap, _∙_}
+use mathlib.Core.List.{List, [], _∷_}
 use Prim.Native.Nat.{ℕ}
 use mir.Syntax.{w8}
 use borrow.Author.Needs.{needs}
 use Rattle.cipher.specs.declared.cmac.CmacState.{CmacState}
-use Rattle.cipher.specs.CmacState.{keyed, fed, finished}
-use Rattle.cipher.specs.Kdf.{kdf}
+use Rattle.cipher.specs.CmacState.{keyed, begun, fed, finished}
 use Rattle.cipher.proofs.Arrays.{array-fits}
-use Rattle.cipher.proofs.Feeds.{feed-append}
-use Rattle.cipher.proofs.Tag.{tag-whole}
+use Rattle.cipher.proofs.Tag.{one-shot-law}
 use Rattle.cipher.proofs.kdf.kdf_counter_cmac.Statement.{statement}
 use Rattle.cipher.proofs.kdf.kdf_counter_cmac.Tie as tie
-
--- `cipher::kdf::kdf_counter_cmac`: the four feeds together are the message of SP 800-108.
 
 mix-table-requires : tie.Need-mix-table-requires
 mix-table-requires c κs = search needs
@@ -43,26 +39,32 @@ absorb-requires-4 : tie.Need-absorb-requires-4
 absorb-requires-4 c κs = search needs
 
 close-requires : tie.Need-close-requires
-close-requires c κs = (c .before .before .before .before .before .before .before .before .before .before .before .before .before .before .before .before .before .before .mix-table .ensures, c .before .before .before .before .before .before .before .before .before .before .before .before .before .before .before .before .before .sbox-table .ensures)
+close-requires c κs =
+    let absorbed = c .before .before .before .before .before .before .before .before .before .before in
+    let tables = absorbed .before .before .before .before .before .before .before in
+    (tables .before .mix-table .ensures, tables .sbox-table .ensures)
 
 returns : tie.Need-returns
-unfolding kdf
+unfolding begun keyed
 returns c =
-    let start = c .before .before .before .before .before .before .before .before .before .before .before .before .before .before .before .before .before .before .before .before .before .before .before in
+    let s₄ = c .before .before .before .before in
+    let s₃ = s₄ .before .before .before .before in
+    let s₂ = s₃ .before .before .before in
+    let s₁ = s₂ .before .before .before in
+    let s₀ = s₁ .before .before .before .before in
+    let start = s₀ .before .before .before .before .before in
     let key = start .args .key in
     let a = start .args .first .now in
     let b = start .args .second .now in
-    let one : List ℕ = 1 ∷ [] in
-    let tail : List ℕ = 0 ∷ 0 ∷ 0 ∷ 0 ∷ 0x80 ∷ [] in
-    let s1 : c .before .before .before .before .before .before .before .before .before .before .before .before .before .before .absorb .result ≡ fed (keyed key) one = c .before .before .before .before .before .before .before .before .before .before .before .before .before .before .absorb .ensures ∙ ap (λ (s : CmacState). fed s one) (c .before .before .before .before .before .before .before .before .before .before .before .before .before .before .before .before .before .before .keyed .ensures) in
-    let s2 : c .before .before .before .before .before .before .before .before .before .before .before .absorb2 .result ≡ fed (keyed key) (one ++ a) =
-    c .before .before .before .before .before .before .before .before .before .before .before .absorb2 .ensures ∙ ap (λ (s : CmacState). fed s a) s1 ∙ feed-append (keyed key) one a in
-    let s3 : c .before .before .before .before .before .before .before .before .absorb3 .result ≡ fed (keyed key) (one ++ a ++ b) =
-    c .before .before .before .before .before .before .before .before .absorb3 .ensures ∙ ap (λ (s : CmacState). fed s b) s2 ∙ feed-append (keyed key) (one ++ a) b in
-    let s4 : c .before .before .before .before .absorb4 .result ≡ fed (keyed key) (one ++ a ++ b ++ tail) =
-    c .before .before .before .before .absorb4 .ensures ∙ ap (λ (s : CmacState). fed s tail) s3 ∙ feed-append (keyed key) (one ++ a ++ b) tail in
-    ap (λ (s : CmacState). s .block) (c .before .close .ensures ∙ ap finished s4)
-    ∙ tag-whole key (one ++ a ++ b ++ tail) (array-fits w8 16 key _ (start .good .0))
+    let counted = fed (keyed key) (1 ∷ []) in
+    let labelled = fed (fed counted a) b in
+    let end : List ℕ = 0 ∷ 0 ∷ 0 ∷ 0 ∷ 0x80 ∷ [] in
+    let e₁ : s₁ .absorb .result ≡ counted = s₁ .absorb .ensures ∙ ap (λ (s : CmacState). fed s (1 ∷ [])) (s₀ .keyed .ensures) in
+    let e₂ : s₂ .absorb2 .result ≡ fed counted a = s₂ .absorb2 .ensures ∙ ap (λ (s : CmacState). fed s a) e₁ in
+    let e₃ : s₃ .absorb3 .result ≡ labelled = s₃ .absorb3 .ensures ∙ ap (λ (s : CmacState). fed s b) e₂ in
+    let e₄ : s₄ .absorb4 .result ≡ fed labelled end = s₄ .absorb4 .ensures ∙ ap (λ (s : CmacState). fed s end) e₃ in
+    ap (λ (s : CmacState). s .block) (c .before .close .ensures ∙ ap finished e₄)
+    ∙ sym (one-shot-law .label key (array-fits w8 16 key _ (start .good .0)) a b)
 
 pub kdf-counter-cmac-spec : {M : Type 1} → statement M
 kdf-counter-cmac-spec =
