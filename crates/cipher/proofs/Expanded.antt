@@ -9,7 +9,9 @@ use lib.Bits.{xor-lt}
 use lib.ListN.{length, length-append, getD, List·getD-append}
 use lib.Seq.{getD-append-add}
 use borrow.Author.Tests.{leb-true, leb-false}
-use Rattle.cipher.specs.Aes.{Word, State, numberWord, wordNumber, xorWord, subWord, rotWord, rcon, nextRoundKey, roundKey, stateOf, wordAt, stateNumbers, expandTo, expandKey, keptKey, cipher, afterRounds, addRoundKey, mixColumns, shiftRows, subBytes, blockOf, aes128, encryptWith}
+use Rattle.cipher.specs.Aes.{Word, State, numberWord, wordNumber, xorWord, subWord, rotWord, wordAt, stateOf, blockOf}
+use Rattle.cipher.specs.Aes.{rcon, nextRoundKey, roundKey, stateNumbers, expandTo, expandKey, keptKey}
+use Rattle.cipher.specs.Aes.{subBytes, shiftRows, mixColumns, addRoundKey, afterRounds, cipher, aes128, encryptWith}
 use Rattle.cipher.proofs.Cases.{by-test}
 use Rattle.cipher.proofs.Words.{number-word, state-ext}
 use Rattle.cipher.proofs.Mix.{sub-lt}

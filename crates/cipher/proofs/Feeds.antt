@@ -103,5 +103,6 @@ unfolding fed clamped finished
 full-block = record {
   in-fed = λ s m h. ap (λ (p : ℕ). foldl fedByte (state (s .block) p (s .keys)) m) (clamped-full s h);
   in-finished = λ s h.
-      ap (λ (p : ℕ). state (encryptWith (s .keys) (closedBlock (s .block) p (subkey1 (encryptWith (s .keys))) (subkey2 (encryptWith (s .keys))))) 0 (s .keys)) (clamped-full s h);
+      let ciph = encryptWith (s .keys) in
+      ap (λ (p : ℕ). state (ciph (closedBlock (s .block) p (subkey1 ciph) (subkey2 ciph))) 0 (s .keys)) (clamped-full s h);
 }

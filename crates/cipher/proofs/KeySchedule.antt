@@ -11,7 +11,8 @@ use lib.ListN.{length, length-append, length-take, getD, take, drop, set}
 use lib.Seq.{sets-eq, take-at}
 use Rattle.cipher.specs.Field.{xtime}
 use Rattle.cipher.specs.Sbox.{tableFrom}
-use Rattle.cipher.specs.Aes.{State, numberWord, wordNumber, xorWord, subWord, rotWord, diagonal, rcon, rconByte, nextRoundKey, roundKey, stateNumbers, expandTo}
+use Rattle.cipher.specs.Aes.{State, numberWord, wordNumber, xorWord, subWord, rotWord, diagonal}
+use Rattle.cipher.specs.Aes.{rcon, rconByte, nextRoundKey, roundKey, stateNumbers, expandTo}
 use Rattle.cipher.proofs.Words.{table-at, number-word, number-xor, state-ext}
 use Rattle.cipher.proofs.Mix.{xtime-lt}
 
@@ -63,7 +64,9 @@ pub put-front : (l m : List ℕ) (r : ℕ) (s : State) → 4 * r + 4 ≤ length 
     → m ≡ take (4 * r) l ++ stateNumbers s ++ drop (4 * r + 4) l → take (4 * r + 4) m ≡ take (4 * r) l ++ stateNumbers s
 unfolding stateNumbers
 put-front l m r s h e =
-    rw e (take-at (take (4 * r) l ++ stateNumbers s) (drop (4 * r + 4) l) (4 * r + 4) (length-append (take (4 * r) l) (stateNumbers s) ∙ simp length-take (omega arith)))
+    let front = take (4 * r) l in
+    let sized : length (front ++ stateNumbers s) ≡ 4 * r + 4 = length-append front (stateNumbers s) ∙ simp length-take (omega arith) in
+    rw e (take-at (front ++ stateNumbers s) (drop (4 * r + 4) l) (4 * r + 4) sized)
 
 pub expand-step : (key l m : List ℕ) (r : ℕ) (s : State) → 4 * (r + 1) + 4 ≤ length l
     → m ≡ take (4 * (r + 1)) l ++ stateNumbers s ++ drop (4 * (r + 1) + 4) l

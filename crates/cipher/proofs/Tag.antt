@@ -54,6 +54,16 @@ xor-length : (c : List ℕ) (p : ℕ) (w : List ℕ) → xorFrom c p (w ++ 0x80 
 xor-length c p [] = rw add-zero
 xor-length c p (b ∷ w) = xor-length (xorAt c p b) (suc p) w ∙ ap (λ (i : ℕ). xorAt (xorFrom (xorAt c p b) (suc p) w) i 0x80) (omega arith)
 
+-- the bit 1 behind w, which is less than a block
+xor-padded : (c w : List ℕ) → length c ≡ 16 → length w < 16
+    → xorAt (xorFrom c 0 w) (length w) 0x80 ≡ xorBytes c (w ++ 0x80 ∷ replicate (15 - length w) 0)
+xor-padded c w hc hw =
+    let k = 15 - length w in
+    ap (λ (i : ℕ). xorAt (xorFrom c 0 w) i 0x80) (sym (zero-add (length w)))
+    ∙ sym (xor-length c 0 w)
+    ∙ xor-from c (w ++ 0x80 ∷ []) k (rw length-append (omega arith))
+    ∙ ap (xorBytes c) (append-assoc w (0x80 ∷ []) (replicate k 0))
+
 module _ (keys : List ℕ) where
   abbrev ciph : List ℕ → List ℕ
   ciph = encryptWith keys
@@ -80,9 +90,7 @@ module _ (keys : List ℕ) where
       (λ e.
       let h = ltb-true (length w) 16 e in
       rw (e, ne-eqb (length w) 16 (λ q. omega arith))
-      (ap (λ (l : List ℕ). xorBytes l (subkey2 ciph))
-      (sym (xor-length c 0 w ∙ ap (λ (i : ℕ). xorAt (xorFrom c 0 w) i 0x80) (zero-add (length w)))
-      ∙ xor-from c (w ++ 0x80 ∷ []) (15 - length w) (rw length-append (omega arith)) ∙ ap (xorBytes c) (append-assoc w (0x80 ∷ []) (replicate (15 - length w) 0)))
+      (ap (λ (l : List ℕ). xorBytes l (subkey2 ciph)) (xor-padded c w hc h)
       ∙ xor-bytes-assoc c (w ++ 0x80 ∷ replicate (15 - length w) 0) (subkey2 ciph)))
       (λ e.
       let h = ltb-false (length w) 16 e in

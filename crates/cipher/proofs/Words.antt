@@ -6,7 +6,7 @@ use native.Mathlib.Omega.{arith}
 use lib.Bits.{bitXor, xor-shr, xor-mod}
 use lib.ListN.{getD}
 use Rattle.cipher.specs.Sbox.{subByte, sbox, tableFrom}
-use Rattle.cipher.specs.Aes.{Word, State, numberWord, wordNumber, xorWord}
+use Rattle.cipher.specs.Aes.{Word, State, numberWord, wordNumber, xorWord, rotWord}
 
 pub table-at : (f : ℕ → ℕ) (n i k : ℕ) → k < n → getD (tableFrom f n i) k 0 ≡ f (i + k)
 unfolding tableFrom
@@ -79,11 +79,34 @@ word-of x a b c d ha hb hc hd e = rw e (number-word (record { b0 = a; b1 = b; b2
 
 -- a number of four bytes, turned by one, two and three of them
 module _ (w a b c d : ℕ) (ha : a < 256) (hb : b < 256) (hc : c < 256) (hd : d < 256) (e : w ≡ a * 0x1000000 + b * 0x10000 + c * 0x100 + d) where
-  pub turn-1 : w / 0x100 + w % 0x100 * 0x1000000 ≡ d * 0x1000000 + a * 0x10000 + b * 0x100 + c
+  turn-1 : w / 0x100 + w % 0x100 * 0x1000000 ≡ d * 0x1000000 + a * 0x10000 + b * 0x100 + c
   turn-1 = omega arith
 
-  pub turn-2 : w / 0x10000 + w % 0x10000 * 0x10000 ≡ c * 0x1000000 + d * 0x10000 + a * 0x100 + b
+  turn-2 : w / 0x10000 + w % 0x10000 * 0x10000 ≡ c * 0x1000000 + d * 0x10000 + a * 0x100 + b
   turn-2 = omega arith
 
-  pub turn-3 : w / 0x1000000 + w % 0x1000000 * 0x100 ≡ b * 0x1000000 + c * 0x10000 + d * 0x100 + a
+  turn-3 : w / 0x1000000 + w % 0x1000000 * 0x100 ≡ b * 0x1000000 + c * 0x10000 + d * 0x100 + a
   turn-3 = omega arith
+
+-- the same of any 32-bit number, in words
+module _ (x : ℕ) (h : x < 2 ^ 32) where
+  abbrev bytes : Bytes32 x
+  bytes = bytes32 x h
+
+  pub turned-1 : numberWord (x / 0x100 + x % 0x100 * 0x1000000) ≡ rotWord (rotWord (rotWord (numberWord x)))
+  unfolding numberWord rotWord
+  turned-1 =
+      word-of _ _ _ _ _ (bytes .b3) (bytes .b0) (bytes .b1) (bytes .b2)
+      (turn-1 x _ _ _ _ (bytes .b0) (bytes .b1) (bytes .b2) (bytes .b3) (bytes .sum))
+
+  pub turned-2 : numberWord (x / 0x10000 + x % 0x10000 * 0x10000) ≡ rotWord (rotWord (numberWord x))
+  unfolding numberWord rotWord
+  turned-2 =
+      word-of _ _ _ _ _ (bytes .b2) (bytes .b3) (bytes .b0) (bytes .b1)
+      (turn-2 x _ _ _ _ (bytes .b0) (bytes .b1) (bytes .b2) (bytes .b3) (bytes .sum))
+
+  pub turned-3 : numberWord (x / 0x1000000 + x % 0x1000000 * 0x100) ≡ rotWord (numberWord x)
+  unfolding numberWord rotWord
+  turned-3 =
+      word-of _ _ _ _ _ (bytes .b1) (bytes .b2) (bytes .b3) (bytes .b0)
+      (turn-3 x _ _ _ _ (bytes .b0) (bytes .b1) (bytes .b2) (bytes .b3) (bytes .sum))

@@ -23,9 +23,11 @@ encrypt-block-requires c κs = search needs
 
 returns : tie.Need-returns
 returns c =
-    let start = c .before .before .before .before .before .before .before .before .before in
-    c .encrypt-block .ensures
-    ∙ (rw (c .before .before .before .before .before .expand-key .ensures) (encrypt-expanded (start .args .t1) (array-fits w8 16 (start .args .t1) _ (start .good .0)) (start .args .t2)))
+    let expanded = c .before .before .before .before .before in
+    let start = expanded .before .before .before .before in
+    let a = start .args in
+    let bytes = array-fits w8 16 (a .t1) _ (start .good .0) in
+    c .encrypt-block .ensures ∙ (rw (expanded .expand-key .ensures) (encrypt-expanded (a .t1) bytes (a .t2)))
 
 pub aes128-encrypt-spec : {M : Type 1} → statement M
 aes128-encrypt-spec =

@@ -41,12 +41,11 @@ loop-less c = search needs
 
 loop-again : tie.Need-loop-again Inv-loop μ-loop
 unfolding afterRounds
-loop-again c = (
-  search needs,
-  rw add-one
-      (rw add-one at (c .add-round-key2 .ensures)
-      ∙ ap (addRoundKey _) (c .before .mix-columns .ensures ∙ ap (λ (t : State). mixColumns (shiftRows (subBytes t))) (c .before .before .before .loop .inv .1))),
-)
+loop-again c =
+    let mixed = c .before in
+    let l = mixed .before .before .loop in
+    let same = mixed .mix-columns .ensures ∙ ap (λ (t : State). mixColumns (shiftRows (subBytes t))) (l .inv .1) in
+    (search needs, rw add-one (rw add-one at (c .add-round-key2 .ensures) ∙ ap (addRoundKey _) same))
 
 shift-rows-requires : tie.Need-shift-rows-requires Inv-loop μ-loop
 shift-rows-requires c κs = search needs

@@ -17,7 +17,8 @@ use Rattle.cipher.proofs.aes.expand_key.Tie as tie
 -- `cipher::aes::expand_key`. The invariant: `k` is round key r, and the front of `keys` has the round keys up to r.
 
 abbrev Inv-loop : tie.InvT-loop
-Inv-loop key sub keys₀ k₀ r₀ keys k r = (r ≤ 10) × (sub ≡ sbox) × (length keys ≡ 44) × (columnsState k ≡ roundKey key r) × (take (4 * r + 4) keys ≡ expandTo key r)
+Inv-loop key sub keys₀ k₀ r₀ keys k r =
+    (r ≤ 10) × (sub ≡ sbox) × (length keys ≡ 44) × (columnsState k ≡ roundKey key r) × (take (4 * r + 4) keys ≡ expandTo key r)
 
 abbrev μ-loop : tie.MeasureT-loop
 μ-loop key sub keys₀ k₀ r₀ keys k r = 10 - r
@@ -37,8 +38,10 @@ put-round-key-requires c κs = search needs
 loop-holds : tie.Need-loop-holds Inv-loop μ-loop
 unfolding roundKey expandTo
 loop-holds c =
+    let put = c .before .put-round-key in
     let first = c .before .before .before .load .ensures in
-    (search needs, search needs, search needs, first, put-front (replicate 44 0) (c .before .put-round-key .last .0) 0 _ (lit≤ tt) (c .before .put-round-key .ensures) ∙ ap stateNumbers first)
+    let front = put-front (replicate 44 0) (put .last .0) 0 _ (lit≤ tt) (put .ensures) ∙ ap stateNumbers first in
+    (search needs, search needs, search needs, first, front)
 
 next-round-key-requires : tie.Need-next-round-key-requires Inv-loop μ-loop
 next-round-key-requires c κs = search needs
@@ -58,16 +61,16 @@ loop-less c = search needs
 loop-again : tie.Need-loop-again Inv-loop μ-loop
 unfolding roundKey
 loop-again c =
-    let l = c .before .before .before .before .before .before .loop in
-    let key = c .before .before .before .before .before .before .before .before .before .before .before .before .args .key .now in
-    let next : columnsState (c .before .before .before .next-round-key .result) ≡ roundKey key (l .r + 1) =
-    rw add-one (c .before .before .before .next-round-key .ensures ∙ ap (nextRoundKey _) (l .inv .3)) in (
-      search needs,
-      search needs,
-      search needs,
-      next,
-      expand-step key (l .keys) (c .before .put-round-key2 .last .0) (l .r) _ (omega arith) (c .before .put-round-key2 .ensures) (l .inv .4) next,
-    )
+    let made = c .before .before .before in
+    let looped = made .before .before .before in
+    let start = looped .before .before .before .before .before .before in
+    let put = c .before .put-round-key2 in
+    let l = looped .loop in
+    let key = start .args .key .now in
+    let next : columnsState (made .next-round-key .result) ≡ roundKey key (l .r + 1) =
+    rw add-one (made .next-round-key .ensures ∙ ap (nextRoundKey _) (l .inv .3)) in
+    let front = expand-step key (l .keys) (put .last .0) (l .r) _ (omega arith) (put .ensures) (l .inv .4) next in
+    (search needs, search needs, search needs, next, front)
 
 returns : tie.Need-returns Inv-loop μ-loop
 unfolding expandKey

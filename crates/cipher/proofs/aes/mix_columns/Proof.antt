@@ -22,7 +22,9 @@ mixed-requires-4 c κs = search needs
 
 returns : tie.Need-returns
 unfolding columnsState mixColumns shiftRows subBytes subWord diagonal
-returns c = state-ext (c .before .before .before .mixed .ensures) (c .before .before .mixed2 .ensures) (c .before .mixed3 .ensures) (c .mixed4 .ensures)
+returns c =
+    state-ext (c .before .before .before .mixed .ensures) (c .before .before .mixed2 .ensures)
+    (c .before .mixed3 .ensures) (c .mixed4 .ensures)
 
 pub mix-columns-spec : {M : Type 1} → statement M
 mix-columns-spec =

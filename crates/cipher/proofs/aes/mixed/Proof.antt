@@ -33,11 +33,14 @@ rotate-right-24-requires c κs = search needs
 returns : tie.Need-returns
 unfolding subWord diagonal numberWord
 returns c =
-    let a = c .before .before .before .before .before .before .before .args in
-    let top = bytes32 (a .a) (c .before .before .before .before .before .before .before .fits .a .fits) .top in
-    mix-numbers _ _ _ _ _ _ _ _ (rw top at (c .before .before .before .before .before .before .mix-entry .ensures))
-    (c .before .before .before .before .rotate-right-8 .ensures ∙ ap (λ (v : Word). rotWord (rotWord (rotWord v))) (c .before .before .before .before .before .mix-entry2 .ensures))
-    (c .before .before .rotate-right-16 .ensures ∙ ap (λ (v : Word). rotWord (rotWord v)) (c .before .before .before .mix-entry3 .ensures))
+    let third = c .before .before in
+    let second = third .before .before in
+    let first = second .before .before in
+    let start = first .before in
+    let top = bytes32 (start .args .a) (start .fits .a .fits) .top in
+    mix-numbers _ _ _ _ _ _ _ _ (rw top at (first .mix-entry .ensures))
+    (second .rotate-right-8 .ensures ∙ ap (λ (v : Word). rotWord (rotWord (rotWord v))) (second .before .mix-entry2 .ensures))
+    (third .rotate-right-16 .ensures ∙ ap (λ (v : Word). rotWord (rotWord v)) (third .before .mix-entry3 .ensures))
     (c .rotate-right-24 .ensures ∙ ap rotWord (c .before .mix-entry4 .ensures))
 
 pub mixed-spec : {M : Type 1} → statement M

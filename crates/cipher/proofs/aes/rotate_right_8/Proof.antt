@@ -1,8 +1,6 @@
 -- `cipher::aes::rotate_right_8` turns a word by one byte.
-use Prim.Native.Nat.{_/_, _%_}
 use borrow.Author.Needs.{needs}
-use Rattle.cipher.specs.Aes.{rotWord, numberWord}
-use Rattle.cipher.proofs.Words.{bytes32, word-of, turn-1}
+use Rattle.cipher.proofs.Words.{turned-1}
 use Rattle.cipher.proofs.aes.rotate_right_8.Statement.{statement}
 use Rattle.cipher.proofs.aes.rotate_right_8.Tie as tie
 
@@ -15,11 +13,7 @@ add-result : tie.Need-add-result
 add-result c = search needs
 
 returns : tie.Need-returns
-unfolding rotWord numberWord
-returns c =
-    let w = c .args .w in
-    let B = bytes32 w (c .fits .w .fits) in
-    word-of _ (w % 256) (w / 0x1000000 % 256) (w / 0x10000 % 256) (w / 0x100 % 256) (B .b3) (B .b0) (B .b1) (B .b2) (turn-1 w (w / 0x1000000 % 256) (w / 0x10000 % 256) (w / 0x100 % 256) (w % 256) (B .b0) (B .b1) (B .b2) (B .b3) (B .sum))
+returns c = turned-1 (c .args .w) (c .fits .w .fits)
 
 pub rotate-right-8-spec : {M : Type 1} → statement M
 rotate-right-8-spec = tie.close (tie.spec mul-result add-result returns)

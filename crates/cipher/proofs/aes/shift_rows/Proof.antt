@@ -22,7 +22,9 @@ substituted-requires-4 c κs = search needs
 
 returns : tie.Need-returns
 unfolding columnsState shiftRows subBytes subWord diagonal
-returns c = state-ext (c .before .before .before .substituted .ensures) (c .before .before .substituted2 .ensures) (c .before .substituted3 .ensures) (c .substituted4 .ensures)
+returns c =
+    state-ext (c .before .before .before .substituted .ensures) (c .before .before .substituted2 .ensures)
+    (c .before .substituted3 .ensures) (c .substituted4 .ensures)
 
 pub shift-rows-spec : {M : Type 1} → statement M
 shift-rows-spec =

@@ -21,15 +21,25 @@ substitute-requires-4 : tie.Need-substitute-requires-4
 substitute-requires-4 c κs = search needs
 
 word-requires : tie.Need-word-requires
-word-requires c κs = rw (c .before .before .before .substitute .ensures, c .before .before .substitute2 .ensures, c .before .substitute3 .ensures, c .substitute4 .ensures) (sub-lt _, sub-lt _, sub-lt _, sub-lt _)
+word-requires c κs =
+    let third = c .before in
+    let second = third .before in
+    let first = second .before in
+    rw (first .substitute .ensures, second .substitute2 .ensures, third .substitute3 .ensures, c .substitute4 .ensures)
+    (sub-lt _, sub-lt _, sub-lt _, sub-lt _)
 
 returns : tie.Need-returns
 unfolding numberWord subWord diagonal
 returns c =
-    let a = c .before .before .before .before .before .args in
-    let top = bytes32 (a .a) (c .before .before .before .before .before .fits .a .fits) .top in
+    let fourth = c .before in
+    let third = fourth .before in
+    let second = third .before in
+    let first = second .before in
+    let start = first .before in
+    let top = bytes32 (start .args .a) (start .fits .a .fits) .top in
     word-of _ _ _ _ _ (sub-lt _) (sub-lt _) (sub-lt _) (sub-lt _)
-    (rw (← top, ← c .before .before .before .before .substitute .ensures, ← c .before .before .before .substitute2 .ensures, ← c .before .before .substitute3 .ensures, ← c .before .substitute4 .ensures) (c .word .ensures))
+    (rw (← top, ← first .substitute .ensures, ← second .substitute2 .ensures, ← third .substitute3 .ensures, ← fourth .substitute4 .ensures)
+    (c .word .ensures))
 
 pub substituted-spec : {M : Type 1} → statement M
 substituted-spec =

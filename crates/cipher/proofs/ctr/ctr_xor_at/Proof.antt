@@ -1,4 +1,5 @@
--- `cipher::ctr::ctr_xor_at`. The invariant: the bytes before i are done and those from i on as lent, and while a block of the key stream is in use, `stream` is it.
+-- `cipher::ctr::ctr_xor_at`. The invariant: the bytes before i are done and those from i on as lent, and while a block of the key stream is in
+-- use, `stream` is it.
 use mathlib.Core.Path.{_≡_, refl, sym, ap, fun-ext, _∙_}
 use mathlib.Core.List.{List, _++_}
 use Prim.Native.Nat.{ℕ, _+_, _-_, _*_, _%_, _^_, _≤_, _<_}
@@ -15,8 +16,6 @@ use Rattle.cipher.proofs.Expanded.{encrypt-expanded}
 use Rattle.cipher.proofs.Stream.{stream-at, ctr-step, ctr-done}
 use Rattle.cipher.proofs.ctr.ctr_xor_at.Statement.{statement}
 use Rattle.cipher.proofs.ctr.ctr_xor_at.Tie as tie
-
--- `cipher::ctr::ctr_xor_at`. The invariant: the bytes before i are done and those from i on as lent, and while a block of the key stream is in use, `stream` is it.
 
 abbrev Inv-loop : tie.InvT-loop
 Inv-loop iv count buf₀ mix sub keys stream₀ used₀ blocks₀ i₀ buf stream used blocks i =
@@ -59,11 +58,13 @@ loop-less c = search needs
 
 loop-again : tie.Need-loop-again Inv-loop μ-loop
 loop-again c =
-    let l = c .before .before .before .loop in
-    let a = c .before .before .before .before .before .before .before .before .before .args in
-    let ciph = encryptWith (c .before .before .before .before .expand-key .result) in
+    let looped = c .before .before .before in
+    let l = looped .loop in
+    let a = looped .before .before .before .before .before .before .args in
+    let ciph = encryptWith (looped .before .expand-key .result) in
     let known = stream-at ciph (a .iv) (l .stream) (a .count) (l .i) (l .blocks - 1) (l .used) (omega arith) (omega arith) (l .inv .7 (omega arith)) in
-    (search needs, search needs, search needs, search needs, search needs, search needs, search needs, (λ h. l .inv .7 (omega arith)), ctr-step ciph (a .iv) (l .buf) (a .count) (l .i) _ (omega arith) (sym known) ∙ l .inv .8)
+    let done = ctr-step ciph (a .iv) (l .buf) (a .count) (l .i) _ (omega arith) (sym known) ∙ l .inv .8 in
+    (search needs, search needs, search needs, search needs, search needs, search needs, search needs, (λ h. l .inv .7 (omega arith)), done)
 
 wrapping-add-u64-requires : tie.Need-wrapping-add-u64-requires Inv-loop μ-loop
 wrapping-add-u64-requires c κs = search needs
@@ -94,14 +95,18 @@ loop-less-2 c = search needs
 
 loop-again-2 : tie.Need-loop-again-2 Inv-loop μ-loop
 loop-again-2 c =
-    let l = c .before .before .before .before .before .before .before .before .before .before .loop in
-    let a = c .before .before .before .before .before .before .before .before .before .before .before .before .before .before .before .before .args in
-    let ciph = encryptWith (c .before .before .before .before .before .before .before .before .before .before .before .expand-key .result) in
+    let counted = c .before .before .before .before .before .before in
+    let looped = counted .before .before .before .before in
+    let l = looped .loop in
+    let a = looped .before .before .before .before .before .before .args in
+    let ciph = encryptWith (looped .before .expand-key .result) in
+    let block = counted .counter-block .ensures ∙ ap (counterBlock (a .iv)) (counted .before .wrapping-add-u64 .ensures) in
     let made : c .before .encrypt-block .result ≡ ciph (counterBlock (a .iv) ((a .count + l .blocks) % 2 ^ 64)) =
-    c .before .encrypt-block .ensures ∙ ap ciph (c .before .before .before .before .before .before .counter-block .ensures ∙ ap (counterBlock (a .iv)) (c .before .before .before .before .before .before .before .wrapping-add-u64 .ensures)) in
+    c .before .encrypt-block .ensures ∙ ap ciph block in
     let known = stream-at ciph (a .iv) _ (a .count) (l .i) (l .blocks) 0 (omega arith) (omega arith) made in
     let back : l .blocks + 1 - 1 ≡ l .blocks = omega arith in
-    (search needs, search needs, search needs, search needs, search needs, search needs, search needs, (λ h. rw back made), ctr-step ciph (a .iv) (l .buf) (a .count) (l .i) _ (omega arith) (sym known) ∙ l .inv .8)
+    let done = ctr-step ciph (a .iv) (l .buf) (a .count) (l .i) _ (omega arith) (sym known) ∙ l .inv .8 in
+    (search needs, search needs, search needs, search needs, search needs, search needs, search needs, (λ h. rw back made), done)
 
 same-length : tie.Need-same-length Inv-loop μ-loop
 same-length c = search needs

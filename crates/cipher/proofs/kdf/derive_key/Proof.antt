@@ -31,9 +31,11 @@ kdf-counter-cmac-requires c κs = search needs
 returns : tie.Need-returns
 unfolding derivedKey salt
 returns c =
-    let start = c .before .before .before .before .before .before .before in
-    c .kdf-counter-cmac .ensures
-    ∙ ap (kdf _) (cut-parts 32 _ _ (start .args .prefix .now) (start .args .name .now) (c .before .before .before .before .least .ensures) (c .before .before .before .least2 .ensures))
+    let second = c .before .before .before in
+    let first = second .before in
+    let start = first .before .before .before in
+    let cut = cut-parts 32 _ _ (start .args .prefix .now) (start .args .name .now) (first .least .ensures) (second .least2 .ensures) in
+    c .kdf-counter-cmac .ensures ∙ ap (kdf _) cut
 
 pub derive-key-spec : {M : Type 1} → statement M
 derive-key-spec =

@@ -17,7 +17,9 @@ use Rattle.cipher.proofs.cmac.CmacState.absorb.Tie as tie
 -- `cipher::cmac::CmacState::absorb`. The invariant: what is left of the data, fed to the present state, gives what all of it gives.
 
 abbrev Inv-loop : tie.InvT-loop
-Inv-loop mix sub «data» keys block₀ pending₀ i₀ block pending i = (mix ≡ mixTable) × (sub ≡ sbox) × (i ≤ length «data») × (length block ≡ 16) × (pending ≤ 16) × (foldl fedByte (state block pending keys) (drop i «data») ≡ foldl fedByte (state block₀ pending₀ keys) «data»)
+Inv-loop mix sub «data» keys block₀ pending₀ i₀ block pending i =
+    (mix ≡ mixTable) × (sub ≡ sbox) × (i ≤ length «data») × (length block ≡ 16) × (pending ≤ 16)
+    × (foldl fedByte (state block pending keys) (drop i «data») ≡ foldl fedByte (state block₀ pending₀ keys) «data»)
 
 abbrev μ-loop : tie.MeasureT-loop
 μ-loop mix sub «data» keys block₀ pending₀ i₀ block pending i = length «data» - i
@@ -95,8 +97,10 @@ unfolding fed clamped
 returns c =
     let l = c .before .loop in
     let start = c .before .before .before .before .before .before in
-    let end : drop (l .i) (start .args .«data» .now) ≡ [] = drop-of-length-le (start .args .«data» .now) {i = l .i} (omega arith) in
-    rw end at (l .inv .5) ∙ ap (λ (p : ℕ). foldl fedByte (state (start .args .self .block) p (start .args .self .keys)) (start .args .«data» .now)) (c .before .before .least .ensures)
+    let s = start .args .self in
+    let m = start .args .«data» .now in
+    let end : drop (l .i) m ≡ [] = drop-of-length-le m {i = l .i} (omega arith) in
+    rw end at (l .inv .5) ∙ ap (λ (p : ℕ). foldl fedByte (state (s .block) p (s .keys)) m) (c .before .before .least .ensures)
 
 pub absorb-spec : {M : Type 1} → statement M
 absorb-spec =

@@ -30,11 +30,19 @@ encrypt-block-requires-2 c κs = search needs
 
 returns : tie.Need-returns
 unfolding finished subkey1 subkey2
-returns c = let s = c .before .before .before .before .before .before .before .before .before .before .before .before .args .self in
+returns c =
+    let closed = c .before .before .before in
+    let second = closed .before .before .before in
+    let first = second .before in
+    let start = first .before .before .before .before .before in
+    let s = start .args .self in
     let ciph = encryptWith (s .keys) in
-    let k1 : c .before .before .before .before .before .before .before .doubled .result ≡ subkey1 ciph = c .before .before .before .before .before .before .before .doubled .ensures ∙ ap double (c .before .before .before .before .before .before .before .before .encrypt-block .ensures) in
-    let k2 : c .before .before .before .before .before .before .doubled2 .result ≡ subkey2 ciph = c .before .before .before .before .before .before .doubled2 .ensures ∙ ap double k1 in
-    let last = c .before .before .before .close-block .ensures ∙ ap (λ (p : ℕ). closedBlock (s .block) p (c .before .before .before .before .before .before .before .doubled .result) (c .before .before .before .before .before .before .doubled2 .result)) (c .before .before .before .before .least .ensures) ∙ ap₂ (closedBlock (s .block) (min (s .pending) 16)) k1 k2 in
+    let k1 : first .doubled .result ≡ subkey1 ciph = first .doubled .ensures ∙ ap double (first .before .encrypt-block .ensures) in
+    let k2 : second .doubled2 .result ≡ subkey2 ciph = second .doubled2 .ensures ∙ ap double k1 in
+    let last =
+    closed .close-block .ensures
+    ∙ ap (λ (p : ℕ). closedBlock (s .block) p (first .doubled .result) (second .doubled2 .result)) (closed .before .least .ensures)
+    ∙ ap₂ (closedBlock (s .block) (min (s .pending) 16)) k1 k2 in
     ap (λ (l : List ℕ). state l 0 (s .keys)) (c .encrypt-block2 .ensures ∙ ap ciph last)
 
 pub close-spec : {M : Type 1} → statement M
