@@ -9,7 +9,7 @@ use lib.ListN.{length, getD, drop, set, length-set}
 use lib.Seq.{drop-cons, drop-set-lt, getD-set-same, getD-drop}
 use Rattle.cipher.specs.Cmac.{xorBytes, shiftLeft}
 
-pub drop-set-here : (l : List ℕ) (i v : ℕ) → i < length l → drop i (set l i v) ≡ v ∷ drop (suc i) l
+drop-set-here : (l : List ℕ) (i v : ℕ) → i < length l → drop i (set l i v) ≡ v ∷ drop (suc i) l
 drop-set-here l i v h =
     drop-cons (set l i v) i 0 (rw length-set h)
     ∙ ap₂ (λ (x : ℕ) (r : List ℕ). x ∷ r) (getD-set-same l i v 0 h) (drop-set-lt (suc i) l i v (omega arith))

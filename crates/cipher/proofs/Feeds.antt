@@ -38,11 +38,11 @@ unfolding fed clamped
 fed-keys s m = fold-keys (clamped s) m
 
 -- a state that claims no more than a block is left alone
-pub clamped-same : (s : CmacState) → s .pending ≤ 16 → clamped s ≡ s
+clamped-same : (s : CmacState) → s .pending ≤ 16 → clamped s ≡ s
 unfolding clamped
 clamped-same s h = ap (λ (p : ℕ). state (s .block) p (s .keys)) (min-eq-left h)
 
-pub fed-pending : (s : CmacState) (m : List ℕ) → fed s m .pending ≤ 16
+fed-pending : (s : CmacState) (m : List ℕ) → fed s m .pending ≤ 16
 unfolding fed clamped
 fed-pending s m = fold-pending (clamped s) m (min-le-right (s .pending) 16)
 

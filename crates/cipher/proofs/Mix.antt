@@ -19,7 +19,7 @@ pub bit-lt : (b i : ℕ) → affineBit b i < 2
 unfolding affineBit
 bit-lt b i = mod-lt _ (zero-lt-suc 1)
 
-pub affine-lt : (b : ℕ) → affine b < 256
+affine-lt : (b : ℕ) → affine b < 256
 unfolding affine
 affine-lt b = omega (arith, bit-lt b 0, bit-lt b 1, bit-lt b 2, bit-lt b 3, bit-lt b 4, bit-lt b 5, bit-lt b 6, bit-lt b 7)
 
@@ -53,7 +53,7 @@ cycle : (a b c d : ℕ) → bitXor (bitXor (bitXor a b) c) d ≡ bitXor (bitXor 
 cycle a b c d = rw (xor-assoc a b c, xor-assoc a (bitXor b c) d) (xor-comm a (bitXor (bitXor b c) d))
 
 -- 5.1.3, by bytes: each byte's part of the mixed column, turned to the byte's row
-pub mix-sum : (p q r s : ℕ)
+mix-sum : (p q r s : ℕ)
     → xorWord (xorWord (xorWord (mixWord p) (rotWord (rotWord (rotWord (mixWord q))))) (rotWord (rotWord (mixWord r)))) (rotWord (mixWord s))
     ≡ mixColumn (record { b0 = p; b1 = q; b2 = r; b3 = s })
 unfolding xorWord mixWord rotWord mixColumn mixByte

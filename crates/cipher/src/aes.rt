@@ -6,7 +6,9 @@ ghost use lib.ListN.{length, take, drop};
 ghost use Prim.Native.Nat.{_+_, _*_, _≤_, _<_};
 ghost use Rattle.cipher.specs.Sbox.{subByte, sbox};
 ghost use Rattle.cipher.specs.Tables.{mixTable, mixWord};
-ghost use Rattle.cipher.specs.Aes.{numberWord, rotWord, subWord, mixColumn, diagonal, wordAt, stateOf, blockOf, subBytes, shiftRows, mixColumns, addRoundKey, keptKey, encryptWith, rcon, nextRoundKey, stateNumbers, expandKey, aes128};
+ghost use Rattle.cipher.specs.Aes.{numberWord, rotWord, subWord, mixColumn, diagonal, wordAt, stateOf, blockOf};
+ghost use Rattle.cipher.specs.Aes.{subBytes, shiftRows, mixColumns, addRoundKey, keptKey, encryptWith};
+ghost use Rattle.cipher.specs.Aes.{rcon, nextRoundKey, stateNumbers, expandKey, aes128};
 ghost use Rattle.cipher.specs.Columns.{columnsState};
 
 struct Columns {

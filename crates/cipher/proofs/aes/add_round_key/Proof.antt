@@ -6,8 +6,6 @@ use Rattle.cipher.proofs.Words.{state-ext, number-xor}
 use Rattle.cipher.proofs.aes.add_round_key.Statement.{statement}
 use Rattle.cipher.proofs.aes.add_round_key.Tie as tie
 
--- `cipher::aes::add_round_key`: the exclusive or of two numbers is that of their words.
-
 mul-i : tie.Need-mul-i
 mul-i c = search needs
 

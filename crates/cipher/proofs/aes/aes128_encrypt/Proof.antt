@@ -7,8 +7,6 @@ use Rattle.cipher.proofs.Expanded.{encrypt-expanded}
 use Rattle.cipher.proofs.aes.aes128_encrypt.Statement.{statement}
 use Rattle.cipher.proofs.aes.aes128_encrypt.Tie as tie
 
--- `cipher::aes::aes128_encrypt`: what is encrypted under the expanded key is encrypted under the key.
-
 mix-table-requires : tie.Need-mix-table-requires
 mix-table-requires c κs = search needs
 

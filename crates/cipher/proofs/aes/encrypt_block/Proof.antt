@@ -9,8 +9,6 @@ use Rattle.cipher.specs.Columns.{columnsState}
 use Rattle.cipher.proofs.aes.encrypt_block.Statement.{statement}
 use Rattle.cipher.proofs.aes.encrypt_block.Tie as tie
 
--- `cipher::aes::encrypt_block`. The invariant: `s` is the state after r rounds.
-
 abbrev Inv-loop : tie.InvT-loop
 Inv-loop mix sub keys block s₀ r₀ s r = (r ≤ 9) × (columnsState s ≡ afterRounds (keptKey keys) r (stateOf block))
 

@@ -14,8 +14,6 @@ use Rattle.cipher.proofs.KeySchedule.{put-front, expand-step}
 use Rattle.cipher.proofs.aes.expand_key.Statement.{statement}
 use Rattle.cipher.proofs.aes.expand_key.Tie as tie
 
--- `cipher::aes::expand_key`. The invariant: `k` is round key r, and the front of `keys` has the round keys up to r.
-
 abbrev Inv-loop : tie.InvT-loop
 Inv-loop key sub keys₀ k₀ r₀ keys k r =
     (r ≤ 10) × (sub ≡ sbox) × (length keys ≡ 44) × (columnsState k ≡ roundKey key r) × (take (4 * r + 4) keys ≡ expandTo key r)

@@ -6,8 +6,6 @@ use Rattle.cipher.proofs.Words.{state-ext}
 use Rattle.cipher.proofs.aes.load.Statement.{statement}
 use Rattle.cipher.proofs.aes.load.Tie as tie
 
--- `cipher::aes::load`: the four columns are the words of the block.
-
 word-at-requires : tie.Need-word-at-requires
 word-at-requires c κs = search needs
 

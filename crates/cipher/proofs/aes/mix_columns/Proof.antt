@@ -6,8 +6,6 @@ use Rattle.cipher.proofs.Words.{state-ext}
 use Rattle.cipher.proofs.aes.mix_columns.Statement.{statement}
 use Rattle.cipher.proofs.aes.mix_columns.Tie as tie
 
--- `cipher::aes::mix_columns`: its four columns are those that `mixed` gives.
-
 mixed-requires : tie.Need-mixed-requires
 mixed-requires c κs = search needs
 

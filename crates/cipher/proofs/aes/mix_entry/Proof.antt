@@ -5,8 +5,6 @@ use Rattle.cipher.proofs.Mix.{sub-lt, mix-at, number-entry}
 use Rattle.cipher.proofs.aes.mix_entry.Statement.{statement}
 use Rattle.cipher.proofs.aes.mix_entry.Tie as tie
 
--- `cipher::aes::mix_entry` gives the entry of the table for b, a word of four bytes.
-
 mul-result : tie.Need-mul-result
 mul-result c = search needs
 

@@ -7,8 +7,6 @@ use Rattle.cipher.proofs.Mix.{mix-numbers}
 use Rattle.cipher.proofs.aes.mixed.Statement.{statement}
 use Rattle.cipher.proofs.aes.mixed.Tie as tie
 
--- `cipher::aes::mixed`: the exclusive or of the four entries, turned to their rows, is the mixed column.
-
 mix-entry-requires : tie.Need-mix-entry-requires
 mix-entry-requires c κs = search needs
 

@@ -5,8 +5,6 @@ use Rattle.cipher.proofs.KeySchedule.{next-numbers}
 use Rattle.cipher.proofs.aes.next_round_key.Statement.{statement}
 use Rattle.cipher.proofs.aes.next_round_key.Tie as tie
 
--- `cipher::aes::next_round_key` gives the next four words of the key schedule.
-
 rotate-right-24-requires : tie.Need-rotate-right-24-requires
 rotate-right-24-requires c κs = search needs
 

@@ -10,8 +10,6 @@ use Rattle.cipher.proofs.KeySchedule.{put-four}
 use Rattle.cipher.proofs.aes.put_round_key.Statement.{statement}
 use Rattle.cipher.proofs.aes.put_round_key.Tie as tie
 
--- `cipher::aes::put_round_key`: four stores in a row, of the words of the round key.
-
 mul-i : tie.Need-mul-i
 mul-i c = search needs
 

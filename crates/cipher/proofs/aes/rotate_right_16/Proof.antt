@@ -4,8 +4,6 @@ use Rattle.cipher.proofs.Words.{turned-2}
 use Rattle.cipher.proofs.aes.rotate_right_16.Statement.{statement}
 use Rattle.cipher.proofs.aes.rotate_right_16.Tie as tie
 
--- `cipher::aes::rotate_right_16` turns a word by two bytes.
-
 mul-result : tie.Need-mul-result
 mul-result c = search needs
 

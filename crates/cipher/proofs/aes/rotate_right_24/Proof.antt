@@ -4,8 +4,6 @@ use Rattle.cipher.proofs.Words.{turned-3}
 use Rattle.cipher.proofs.aes.rotate_right_24.Statement.{statement}
 use Rattle.cipher.proofs.aes.rotate_right_24.Tie as tie
 
--- `cipher::aes::rotate_right_24` turns a word by three bytes, which is RotWord.
-
 mul-result : tie.Need-mul-result
 mul-result c = search needs
 

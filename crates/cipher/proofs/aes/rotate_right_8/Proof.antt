@@ -4,8 +4,6 @@ use Rattle.cipher.proofs.Words.{turned-1}
 use Rattle.cipher.proofs.aes.rotate_right_8.Statement.{statement}
 use Rattle.cipher.proofs.aes.rotate_right_8.Tie as tie
 
--- `cipher::aes::rotate_right_8` turns a word by one byte.
-
 mul-result : tie.Need-mul-result
 mul-result c = search needs
 

@@ -4,8 +4,6 @@ use Rattle.cipher.proofs.KeySchedule.{table, constant-at, number-consta
 use Rattle.cipher.proofs.aes.round_constant.Statement.{statement}
 use Rattle.cipher.proofs.aes.round_constant.Tie as tie
 
--- `cipher::aes::round_constant`: the table is Rcon at each of its ten entries.
-
 mul-result : tie.Need-mul-result
 mul-result c = search needs
 

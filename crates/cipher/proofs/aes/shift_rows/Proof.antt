@@ -6,8 +6,6 @@ use Rattle.cipher.proofs.Words.{state-ext}
 use Rattle.cipher.proofs.aes.shift_rows.Statement.{statement}
 use Rattle.cipher.proofs.aes.shift_rows.Tie as tie
 
--- `cipher::aes::shift_rows`: its four columns are those that `substituted` gives.
-
 substituted-requires : tie.Need-substituted-requires
 substituted-requires c κs = search needs
 

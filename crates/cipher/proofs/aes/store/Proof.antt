@@ -6,8 +6,6 @@ use Rattle.cipher.specs.Columns.{columnsState}
 use Rattle.cipher.proofs.aes.store.Statement.{statement}
 use Rattle.cipher.proofs.aes.store.Tie as tie
 
--- `cipher::aes::store` writes the bytes of the columns in order.
-
 cast-t4 : tie.Need-cast-t4
 cast-t4 c = search needs
 

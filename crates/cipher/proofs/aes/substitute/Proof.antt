@@ -9,8 +9,6 @@ use Rattle.cipher.proofs.Mix.{sub-lt}
 use Rattle.cipher.proofs.aes.substitute.Statement.{statement}
 use Rattle.cipher.proofs.aes.substitute.Tie as tie
 
--- `cipher::aes::substitute` gives the byte that the S-box has for b, which fits a byte.
-
 substituted-at : (c : tie.After-result) → getD (c .before .args .s .now) (c .before .args .b) 0 ≡ subByte (c .before .args .b)
 substituted-at c = rw (c .before .pre .0) (sbox-at (c .before .args .b) (c .before .pre .1))
 

@@ -6,8 +6,6 @@ use Rattle.cipher.proofs.Mix.{sub-lt}
 use Rattle.cipher.proofs.aes.substituted.Statement.{statement}
 use Rattle.cipher.proofs.aes.substituted.Tie as tie
 
--- `cipher::aes::substituted`: the four substitutes are the bytes of the word.
-
 substitute-requires : tie.Need-substitute-requires
 substitute-requires c κs = search needs
 

@@ -7,8 +7,6 @@ use Rattle.cipher.proofs.Words.{word-of, word-ext}
 use Rattle.cipher.proofs.aes.word_at.Statement.{statement}
 use Rattle.cipher.proofs.aes.word_at.Tie as tie
 
--- `cipher::aes::word_at`: a number made of four bytes of the block has them as its word.
-
 element-copy-out-wide : tie.Need-element-copy-out-wide
 element-copy-out-wide c = search needs
 

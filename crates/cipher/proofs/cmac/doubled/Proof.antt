@@ -8,8 +8,6 @@ use Rattle.cipher.specs.Cmac.{double, r128, xorBytes}
 use Rattle.cipher.proofs.cmac.doubled.Statement.{statement}
 use Rattle.cipher.proofs.cmac.doubled.Tie as tie
 
--- `cipher::cmac::doubled`: R_128 is added where the first bit is set.
-
 array-read-if1 : tie.Need-array-read-if1
 array-read-if1 c = search needs
 

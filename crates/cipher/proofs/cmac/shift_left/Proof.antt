@@ -12,8 +12,6 @@ use Rattle.cipher.proofs.Blocks.{shift-down}
 use Rattle.cipher.proofs.cmac.shift_left.Statement.{statement}
 use Rattle.cipher.proofs.cmac.shift_left.Tie as tie
 
--- `cipher::cmac::shift_left`. The invariant: from place i on, `r` is the shifted string, and `carry` is the bit that place i gives away.
-
 abbrev Inv-loop : tie.InvT-loop
 Inv-loop b r₀ carry₀ i₀ r carry i = (i ≤ 16) × (length b ≡ 16) × (length r ≡ 16) × (carry ≤ 1) × (carry ≡ getD b i 0 / 128) × (drop i r ≡ shiftLeft (drop i b))
 

@@ -12,8 +12,6 @@ use Rattle.cipher.proofs.Blocks.{xor-down}
 use Rattle.cipher.proofs.cmac.xor_block.Statement.{statement}
 use Rattle.cipher.proofs.cmac.xor_block.Tie as tie
 
--- `cipher::cmac::xor_block`. The invariant: from place i on, `r` is the exclusive or.
-
 abbrev Inv-loop : tie.InvT-loop
 Inv-loop a b r₀ i₀ r i = (i ≤ 16) × (length a ≡ 16) × (length b ≡ 16) × (length r ≡ 16) × (drop i r ≡ xorBytes (drop i a) (drop i b))
 

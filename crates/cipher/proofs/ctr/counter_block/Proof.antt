@@ -11,8 +11,6 @@ use Rattle.cipher.proofs.Stream.{list-table}
 use Rattle.cipher.proofs.ctr.counter_block.Statement.{statement}
 use Rattle.cipher.proofs.ctr.counter_block.Tie as tie
 
--- `cipher::ctr::counter_block`: the eight bytes of the IV, then the count.
-
 array-read-t6 : tie.Need-array-read-t6
 array-read-t6 c = search needs
 

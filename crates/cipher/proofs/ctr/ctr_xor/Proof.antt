@@ -4,8 +4,6 @@ use Rattle.cipher.specs.Ctr.{ctr}
 use Rattle.cipher.proofs.ctr.ctr_xor.Statement.{statement}
 use Rattle.cipher.proofs.ctr.ctr_xor.Tie as tie
 
--- `cipher::ctr::ctr_xor` starts at the count 0.
-
 ctr-xor-at-requires : tie.Need-ctr-xor-at-requires
 ctr-xor-at-requires c κs = search needs
 

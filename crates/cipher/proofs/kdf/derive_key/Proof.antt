@@ -8,8 +8,6 @@ use Rattle.cipher.proofs.Salt.{cut-parts}
 use Rattle.cipher.proofs.kdf.derive_key.Statement.{statement}
 use Rattle.cipher.proofs.kdf.derive_key.Tie as tie
 
--- `cipher::kdf::derive_key`: the two parts, each cut, are the salt.
-
 least-requires : tie.Need-least-requires
 least-requires c κs = search needs
 

@@ -14,8 +14,6 @@ use Rattle.cipher.proofs.Fold.{state, fold-short, fold-full}
 use Rattle.cipher.proofs.cmac.CmacState.absorb.Statement.{statement}
 use Rattle.cipher.proofs.cmac.CmacState.absorb.Tie as tie
 
--- `cipher::cmac::CmacState::absorb`. The invariant: what is left of the data, fed to the present state, gives what all of it gives.
-
 abbrev Inv-loop : tie.InvT-loop
 Inv-loop mix sub «data» keys block₀ pending₀ i₀ block pending i =
     (mix ≡ mixTable) × (sub ≡ sbox) × (i ≤ length «data») × (length block ≡ 16) × (pending ≤ 16)

@@ -4,8 +4,6 @@ use Rattle.cipher.specs.CmacState.{begun}
 use Rattle.cipher.proofs.cmac.CmacState.begin.Statement.{statement}
 use Rattle.cipher.proofs.cmac.CmacState.begin.Tie as tie
 
--- `cipher::cmac::CmacState::begin` keeps the expanded key alone.
-
 returns : tie.Need-returns
 unfolding begun
 returns c = refl

@@ -9,8 +9,6 @@ use Rattle.cipher.specs.CmacState.{keyed}
 use Rattle.cipher.proofs.cmac.CmacState.keyed.Statement.{statement}
 use Rattle.cipher.proofs.cmac.CmacState.keyed.Tie as tie
 
--- `cipher::cmac::CmacState::keyed` holds the expanded key.
-
 expand-key-requires : tie.Need-expand-key-requires
 expand-key-requires c κs = search needs
 
