@@ -30,7 +30,15 @@
 #include <stddef.h>
 #include <stdint.h>
 
-/* Numbers that the store's calls return. */
+/* Version of header and library. */
+#define SECURESTORE_VERSION_MAJOR 0
+#define SECURESTORE_VERSION_MINOR 1
+#define SECURESTORE_VERSION_PATCH 0
+#define SECURESTORE_VERSION_STRING "0.1.0"
+
+/* What the store's calls return: one of these numbers. */
+typedef uint32_t securestore_status;
+
 #define SECURESTORE_OK 0u
 #define SECURESTORE_ERR_LENGTH 1u         /* card, chip, device key, IV, name buffer or key buffer of a wrong length */
 #define SECURESTORE_ERR_CORRUPT 2u        /* card or chip is damaged: one bad slot is enough, and only a reset recovers */
@@ -73,65 +81,104 @@
 extern "C" {
 #endif
 
+/* A status as static text, for logs: its constant's name without SECURESTORE_, then its meaning. Any other number gives "unknown status". */
+static inline const char *securestore_status_text(securestore_status status)
+{
+    switch (status) {
+    case SECURESTORE_OK:
+        return "OK";
+    case SECURESTORE_ERR_LENGTH:
+        return "ERR_LENGTH: a buffer has a wrong length";
+    case SECURESTORE_ERR_CORRUPT:
+        return "ERR_CORRUPT: card or chip is damaged";
+    case SECURESTORE_ERR_INVALID_NAME:
+        return "ERR_INVALID_NAME: bad name, prefix or key identifier";
+    case SECURESTORE_ERR_INVALID_FLAGS:
+        return "ERR_INVALID_FLAGS: unknown flags, or replay protection without integrity";
+    case SECURESTORE_ERR_DATA_SIZE:
+        return "ERR_DATA_SIZE: more data than a record holds";
+    case SECURESTORE_ERR_NOT_FOUND:
+        return "ERR_NOT_FOUND: no such name";
+    case SECURESTORE_ERR_ALREADY_EXISTS:
+        return "ERR_ALREADY_EXISTS: write once, and the name is in use";
+    case SECURESTORE_ERR_INVALID_RECORD:
+        return "ERR_INVALID_RECORD: the stored record is not well formed";
+    case SECURESTORE_ERR_FLAGS_MISMATCH:
+        return "ERR_FLAGS_MISMATCH: the flags differ from the stored ones";
+    case SECURESTORE_ERR_NO_SPACE:
+        return "ERR_NO_SPACE: no free slot on the card or in the chip";
+    case SECURESTORE_ERR_AUTHENTICATION:
+        return "ERR_AUTHENTICATION: the record's CMAC is wrong";
+    case SECURESTORE_ERR_ROLLBACK:
+        return "ERR_ROLLBACK: card and chip disagree about the name";
+    case SECURESTORE_ERR_INVALID_KEY_FILE:
+        return "ERR_INVALID_KEY_FILE: not a key file, or too much key material";
+    case SECURESTORE_ERR_OFFSET:
+        return "ERR_OFFSET: the offset lies beyond the data";
+    default:
+        return "unknown status";
+    }
+}
+
 /* Stores data under a name: a new name takes the lowest free slot, a known one keeps its own. With replay protection the record's CMAC goes to the
  * chip too, so both buffers must reach their media. iv must be new for every set with confidentiality under one device key.
  * Tests: 1 lengths (card, chip, key of 16, IV of 8), 2 damage, 3 name, 4 flags, 5 data over 480;
  * where the card holds the name: 8, then 7 if the old or the new flags say write once, then 9;
  * where it does not: 7 if the new flags say write once and the chip holds the name;
  * then in both cases 10 if the card lacks the name and has no free slot, or replay protection is asked for, the chip lacks the name and has no free slot. */
-uint32_t securestore_set(uint8_t *kv, size_t kv_len, uint8_t *rbp, size_t rbp_len, const uint8_t *device_key, size_t device_key_len,
-                         const uint8_t *name, size_t name_len, uint32_t flags, const uint8_t *iv, size_t iv_len, const uint8_t *data,
-                         size_t data_len);
+securestore_status securestore_set(uint8_t *kv, size_t kv_len, uint8_t *rbp, size_t rbp_len, const uint8_t *device_key, size_t device_key_len,
+                                   const uint8_t *name, size_t name_len, uint32_t flags, const uint8_t *iv, size_t iv_len, const uint8_t *data,
+                                   size_t data_len);
 
 /* Reads a record's data from an offset: *count is the smaller of output_len and what lies behind the offset, and so many bytes are written to the
  * front of output; the rest of it is as before. Plaintext is written only after all tests.
  * Tests: 1 lengths, 2 damage, 3 name; not on the card: 12 if the chip holds the name, else 6;
  * 8; 11 where integrity is flagged; 12 where replay protection is flagged and the chip's copy is absent or differs; 14. */
-uint32_t securestore_get(const uint8_t *kv, size_t kv_len, const uint8_t *rbp, size_t rbp_len, const uint8_t *device_key,
-                         size_t device_key_len, const uint8_t *name, size_t name_len, size_t offset, uint8_t *output, size_t output_len,
-                         size_t *count);
+securestore_status securestore_get(const uint8_t *kv, size_t kv_len, const uint8_t *rbp, size_t rbp_len, const uint8_t *device_key,
+                                   size_t device_key_len, const uint8_t *name, size_t name_len, size_t offset, uint8_t *output, size_t output_len,
+                                   size_t *count);
 
 /* A record's data size and flags. Judged as a get at offset 0: the same tests in the same order, all but 14. */
-uint32_t securestore_get_info(const uint8_t *kv, size_t kv_len, const uint8_t *rbp, size_t rbp_len, const uint8_t *device_key,
-                              size_t device_key_len, const uint8_t *name, size_t name_len, uint32_t *data_size, uint32_t *flags);
+securestore_status securestore_get_info(const uint8_t *kv, size_t kv_len, const uint8_t *rbp, size_t rbp_len, const uint8_t *device_key,
+                                        size_t device_key_len, const uint8_t *name, size_t name_len, uint32_t *data_size, uint32_t *flags);
 
 /* Clears the name's slot on the card, and with replay protection the one in the chip.
  * Tests: 1 lengths, 2 damage, 3 name, 6 not on the card, 8, 7 if the record is written once. */
-uint32_t securestore_remove(uint8_t *kv, size_t kv_len, uint8_t *rbp, size_t rbp_len, const uint8_t *name, size_t name_len);
+securestore_status securestore_remove(uint8_t *kv, size_t kv_len, uint8_t *rbp, size_t rbp_len, const uint8_t *name, size_t name_len);
 
 /* Clears card and chip, whatever they hold. Tests: 1 lengths, and nothing else. */
-uint32_t securestore_reset(uint8_t *kv, size_t kv_len, uint8_t *rbp, size_t rbp_len);
+securestore_status securestore_reset(uint8_t *kv, size_t kv_len, uint8_t *rbp, size_t rbp_len);
 
 /* The first name with the prefix from a slot on, for walking over names: start with start_slot 0 and go on with *next_slot while the answer is 0; 6 is
  * the end, any other number an error (after which *next_slot is 0).
  * The name goes to the front of name_buf, the rest of it is as before; *name_len is its length, *next_slot the slot after it.
  * Tests: 1 lengths (name_buf of at least 64), 2 damage, 3 prefix (0 to 64 bytes that a name may hold), 6. No record is judged. */
-uint32_t securestore_iterator_next(const uint8_t *kv, size_t kv_len, const uint8_t *rbp, size_t rbp_len, const uint8_t *prefix,
-                                   size_t prefix_len, size_t start_slot, uint8_t *name_buf, size_t name_buf_len, size_t *name_len,
-                                   size_t *next_slot);
+securestore_status securestore_iterator_next(const uint8_t *kv, size_t kv_len, const uint8_t *rbp, size_t rbp_len, const uint8_t *prefix,
+                                             size_t prefix_len, size_t start_slot, uint8_t *name_buf, size_t name_buf_len, size_t *name_len,
+                                             size_t *next_slot);
 
 /* PSA key files. The five attributes are carried and not judged. */
 
 /* Writes a key file to the front of key_buf, the rest of it is as before; *count is the file's length.
  * Tests: 1 key_buf under 480, 13 material over 444. */
-uint32_t securestore_format_key_file(uint32_t lifetime, uint32_t key_type, uint32_t usage, uint32_t alg, uint32_t enrollment_alg,
-                                     const uint8_t *material, size_t material_len, uint8_t *key_buf, size_t key_buf_len, size_t *count);
+securestore_status securestore_format_key_file(uint32_t lifetime, uint32_t key_type, uint32_t usage, uint32_t alg, uint32_t enrollment_alg,
+                                               const uint8_t *material, size_t material_len, uint8_t *key_buf, size_t key_buf_len, size_t *count);
 
 /* Stores a key file under a key's identifier, 1 to 0xfffeffff: its name is the identifier as 16 lower-case hex digits.
  * Tests: 13 material over 444, then those of a set; a bad identifier is 3. */
-uint32_t securestore_save_key(uint8_t *kv, size_t kv_len, uint8_t *rbp, size_t rbp_len, const uint8_t *device_key, size_t device_key_len,
-                              uint32_t key_id, uint32_t lifetime, uint32_t key_type, uint32_t usage, uint32_t alg, uint32_t enrollment_alg,
-                              const uint8_t *material, size_t material_len, uint32_t flags, const uint8_t *iv, size_t iv_len);
+securestore_status securestore_save_key(uint8_t *kv, size_t kv_len, uint8_t *rbp, size_t rbp_len, const uint8_t *device_key, size_t device_key_len,
+                                        uint32_t key_id, uint32_t lifetime, uint32_t key_type, uint32_t usage, uint32_t alg, uint32_t enrollment_alg,
+                                        const uint8_t *material, size_t material_len, uint32_t flags, const uint8_t *iv, size_t iv_len);
 
 /* Reads a key's file to the front of key_buf, the rest of it is as before; *count is the file's length. What is no key file is not handed out.
  * Tests: 1 lengths (key_buf of at least 480), then those of a get at offset 0; a bad identifier is 3; 13 not a key file. */
-uint32_t securestore_load_key(const uint8_t *kv, size_t kv_len, const uint8_t *rbp, size_t rbp_len, const uint8_t *device_key,
-                              size_t device_key_len, uint32_t key_id, uint8_t *key_buf, size_t key_buf_len, size_t *count);
+securestore_status securestore_load_key(const uint8_t *kv, size_t kv_len, const uint8_t *rbp, size_t rbp_len, const uint8_t *device_key,
+                                        size_t device_key_len, uint32_t key_id, uint8_t *key_buf, size_t key_buf_len, size_t *count);
 
 /* What a key file says: its attributes, and how many bytes of material stand behind its header, from file + SECURESTORE_KEY_FILE_HEADER on.
  * Tests: 13 for a wrong mark, another version than 0, a short header, trailing or missing bytes, or material over 444. */
-uint32_t securestore_parse_key_file(const uint8_t *file, size_t file_len, uint32_t *lifetime, uint32_t *key_type, uint32_t *usage, uint32_t *alg,
-                                    uint32_t *enrollment_alg, uint32_t *material_len);
+securestore_status securestore_parse_key_file(const uint8_t *file, size_t file_len, uint32_t *lifetime, uint32_t *key_type, uint32_t *usage, uint32_t *alg,
+                                              uint32_t *enrollment_alg, uint32_t *material_len);
 
 /* The ciphers below have no refusal. */
 

@@ -27,6 +27,54 @@ static const uint8_t LINE[31] = {'t', 'h', 'e', ' ', 'k', 'e', 'y', ' ', 's', 't
 
 static uint8_t kv[2 * SECURESTORE_KV_SLOT_SIZE], rbp[SECURESTORE_RBP_SLOT_SIZE];
 
+/* Each number with the name that its text begins with. */
+static void test_status_text(void)
+{
+    static const struct {
+        securestore_status status;
+        uint32_t number;
+        const char *name;
+    } rows[] = {{SECURESTORE_OK, 0, "OK"},
+                {SECURESTORE_ERR_LENGTH, 1, "ERR_LENGTH: "},
+                {SECURESTORE_ERR_CORRUPT, 2, "ERR_CORRUPT: "},
+                {SECURESTORE_ERR_INVALID_NAME, 3, "ERR_INVALID_NAME: "},
+                {SECURESTORE_ERR_INVALID_FLAGS, 4, "ERR_INVALID_FLAGS: "},
+                {SECURESTORE_ERR_DATA_SIZE, 5, "ERR_DATA_SIZE: "},
+                {SECURESTORE_ERR_NOT_FOUND, 6, "ERR_NOT_FOUND: "},
+                {SECURESTORE_ERR_ALREADY_EXISTS, 7, "ERR_ALREADY_EXISTS: "},
+                {SECURESTORE_ERR_INVALID_RECORD, 8, "ERR_INVALID_RECORD: "},
+                {SECURESTORE_ERR_FLAGS_MISMATCH, 9, "ERR_FLAGS_MISMATCH: "},
+                {SECURESTORE_ERR_NO_SPACE, 10, "ERR_NO_SPACE: "},
+                {SECURESTORE_ERR_AUTHENTICATION, 11, "ERR_AUTHENTICATION: "},
+                {SECURESTORE_ERR_ROLLBACK, 12, "ERR_ROLLBACK: "},
+                {SECURESTORE_ERR_INVALID_KEY_FILE, 13, "ERR_INVALID_KEY_FILE: "},
+                {SECURESTORE_ERR_OFFSET, 14, "ERR_OFFSET: "}};
+    static const securestore_status unknown[] = {15, 16, 255, 256, 0x80000000u, 0xffffffffu};
+    size_t i;
+    expect(sizeof(securestore_status) == 4 && (securestore_status)-1 == 0xffffffffu, "status: a uint32_t");
+    for (i = 0; i < sizeof rows / sizeof rows[0]; i++) {
+        const char *text = securestore_status_text(rows[i].status);
+        size_t len = strlen(rows[i].name);
+        expect(rows[i].status == rows[i].number && rows[i].number == i, "status: the constant's number");
+        expect(strncmp(text, rows[i].name, len) == 0 && (i == 0) == (text[len] == '\0'), rows[i].name);
+    }
+    for (i = 0; i < sizeof unknown / sizeof unknown[0]; i++) {
+        expect(strcmp(securestore_status_text(unknown[i]), "unknown status") == 0, "status_text: unknown number");
+    }
+}
+
+#if SECURESTORE_VERSION_MAJOR < 0 || SECURESTORE_VERSION_MINOR < 0 || SECURESTORE_VERSION_PATCH < 0
+#error "the version's numbers are for the preprocessor too"
+#endif
+
+static void test_version(void)
+{
+    char text[64];
+    sprintf(text, "%d.%d.%d", SECURESTORE_VERSION_MAJOR, SECURESTORE_VERSION_MINOR, SECURESTORE_VERSION_PATCH);
+    expect(strcmp(text, SECURESTORE_VERSION_STRING) == 0, "version: string and numbers agree");
+    expect(strcmp(SECURESTORE_VERSION_STRING, "0.1.0") == 0, "version: 0.1.0");
+}
+
 static void test_aes(void)
 {
     static const uint8_t want[16] = {0x69, 0xc4, 0xe0, 0xd8, 0x6a, 0x7b, 0x04, 0x30, 0xd8, 0xcd, 0xb7, 0x80, 0x70, 0xb4, 0xc5, 0x5a};
@@ -225,6 +273,8 @@ static void test_keys(void)
 
 int main(void)
 {
+    test_status_text();
+    test_version();
     test_aes();
     test_cmac();
     test_ctr();
