@@ -1,8 +1,8 @@
 /* securestore: named records over a removable card and a small protected chip. Link libsecurestore.a, which needs memcpy and memset and nothing else.
  *
  * The library keeps nothing between calls, allocates nothing and does no input or output. The caller reads the card (kv) and the chip (rbp) into two
- * buffers, lends them to a call, and writes both back after a set, save_key, remove or reset that answered SECURESTORE_OK. A call's stack was measured
- * at 6.2 kB at most (save_key, x86-64); what a call leaves there, plaintext and derived keys among it, is not wiped.
+ * buffers, lends them to a call, and writes both back, the chip first, after a set, save_key, remove or reset that answered SECURESTORE_OK. A call's
+ * stack was measured at 6.2 kB at most (save_key, x86-64); what a call leaves there, plaintext and derived keys among it, is not wiped.
  *
  * Pointers. The library is proved for lent memory, and what makes memory lent is the caller's part:
  * - no pointer is null, also where its length is 0;
@@ -19,9 +19,26 @@
  * a record without replay protection does not ask the chip, also where the chip holds the name: whoever can write the card can put such a record
  * there. A caller that relies on protection asks securestore_get_info on the same buffers for the flags and compares them before it uses the data.
  *
- * Power. Writing card and chip back is two writes, and the library cannot join them. After only one of the two a record with replay protection answers
- * 12 to a get until it is set again, which works; a remove works where the card still holds the name. A write-once record with replay protection
- * then answers 7 to a set with its flags and stays refused until a reset: keep a journal of both buffers if that matters.
+ * Power. Writing card and chip back is two writes, which the library cannot make atomic; a journal of both buffers can. Without replay protection a set
+ * or remove changes the card alone. With it, power lost between the two writes leaves one of two states. In both, get and get_info answer 12 and reset 0.
+ * - The card has the record, the chip has another CMAC or none. A set with the record's flags answers 0, and so does a remove. If the record is write
+ *   once, every set and every remove answers 7 until a reset; only writing the chip's buffer after all, if it was kept, completes the set.
+ * - The chip has the name, the card has not. Remove answers 6, a set with write once 7, a set without write once 0, whatever the lost record's flags.
+ *   Clearing the chip's slot, as below, makes the name free again, for write once too; no reset is needed.
+ * So write the chip first: a write-once set then ends in the second state, and a remove can be repeated. A reset can be repeated in either order.
+ *
+ * Chip slots without a record. They remain after a power loss as above, or where another card is put in, and they occupy the chip. The iterator reads
+ * the card alone and does not give their names. In the chip's buffer a used slot has 1 in byte 0, the name's length in byte 1, the name from byte 2 on.
+ * To clear one, set the name with integrity and replay protection but not write once (flags 12 or 14, any data), then remove it. This needs a free slot
+ * on the card (else the set answers 10) and none in the chip, and it leaves the card's bytes as they were. If the set is without replay protection, the
+ * remove clears the card's slot alone and the chip's remains.
+ *
+ * Write once makes set and remove answer 7 while the card has the record. It protects neither from a reset nor from whoever can write or exchange the
+ * card: on a blank card (all zero) the name is free again, and any set answers 0. Only if the chip has the name, that is for a record with replay
+ * protection, get then answers 12 and a set with write once 7; a set without write once answers 0 even then.
+ *
+ * Erased flash. Empty is all zero. A card or chip of 0xff, or with one slot of 0xff, is damaged: every call on it but reset answers 2. Make new media
+ * all zero first, by a reset; for a new card beside a chip in use, whose contents a reset would clear, make the card's buffer alone all zero.
  *
  * Time. Tags are compared in full, but AES works by table look-ups: its time may depend on key and data where the machine has a data cache. */
 #ifndef SECURESTORE_H

@@ -1,0 +1,465 @@
+/* Holds what securestore.h says about media against the library: power lost between the two writes, chip slots without a record, write once under another
+ * card, erased flash. A statement there that is false fails here. Compiled as C99 and as C++. The last line is 'N passed, M failed'. */
+#include <stdio.h>
+#include <string.h>
+
+#include "securestore.h"
+
+#define SLOTS 3u
+#define PROTECTED (SECURESTORE_REQUIRE_INTEGRITY | SECURESTORE_REQUIRE_REPLAY_PROTECTION)
+
+/* Card and chip; the same media before a call, and with nothing on them. */
+struct media {
+    uint8_t kv[SLOTS * SECURESTORE_KV_SLOT_SIZE], rbp[SLOTS * SECURESTORE_RBP_SLOT_SIZE];
+};
+static struct media now, before;
+static const struct media BLANK = {{0}, {0}};
+
+static const uint8_t KEY[16] = {0x2b, 0x7e, 0x15, 0x16, 0x28, 0xae, 0xd2, 0xa6, 0xab, 0xf7, 0x15, 0x88, 0x09, 0xcf, 0x4f, 0x3c};
+
+/* All flags that a set accepts. */
+static const uint32_t FLAGS[] = {0, 1, 2, 3, 4, 5, 6, 7, 12, 13, 14, 15};
+#define FLAGS_COUNT (sizeof FLAGS / sizeof FLAGS[0])
+
+/* Answers that were not as expected. A test passes if it has none. */
+static unsigned wrong;
+
+/* The flags of the record in question and those of the call tried on it, for the message. */
+static uint32_t stored_flags, tried_flags;
+
+static void expect(int holds, const char *what)
+{
+    if (!holds) {
+        wrong++;
+        printf("failed: %s (stored with flags %u, tried with %u)\n", what, (unsigned)stored_flags, (unsigned)tried_flags);
+    }
+}
+
+static void expect_status(securestore_status status, securestore_status want, const char *what)
+{
+    expect(status == want, what);
+    if (status != want) {
+        printf("  answered %u (%s), not %u\n", (unsigned)status, securestore_status_text(status), (unsigned)want);
+    }
+}
+
+static securestore_status set_named(const char *name, uint32_t flags)
+{
+    static uint8_t iv[SECURESTORE_IV_SIZE], data[3];
+    iv[7]++;
+    data[0]++; /* so that no two records have one CMAC */
+    tried_flags = flags;
+    return securestore_set(now.kv, sizeof now.kv, now.rbp, sizeof now.rbp, KEY, sizeof KEY, (const uint8_t *)name, strlen(name), flags, iv, sizeof iv, data,
+                           sizeof data);
+}
+
+static securestore_status get_named(const char *name)
+{
+    uint8_t output[SECURESTORE_DATA_MAX];
+    size_t count;
+    return securestore_get(now.kv, sizeof now.kv, now.rbp, sizeof now.rbp, KEY, sizeof KEY, (const uint8_t *)name, strlen(name), 0, output, sizeof output,
+                           &count);
+}
+
+static securestore_status remove_named(const char *name)
+{
+    return securestore_remove(now.kv, sizeof now.kv, now.rbp, sizeof now.rbp, (const uint8_t *)name, strlen(name));
+}
+
+static securestore_status set(uint32_t flags)
+{
+    return set_named("a", flags);
+}
+
+static securestore_status get(void)
+{
+    return get_named("a");
+}
+
+static securestore_status get_info(uint32_t *flags)
+{
+    uint32_t data_size;
+    return securestore_get_info(now.kv, sizeof now.kv, now.rbp, sizeof now.rbp, KEY, sizeof KEY, (const uint8_t *)"a", 1, &data_size, flags);
+}
+
+static securestore_status remove_it(void)
+{
+    return remove_named("a");
+}
+
+static securestore_status reset(void)
+{
+    return securestore_reset(now.kv, sizeof now.kv, now.rbp, sizeof now.rbp);
+}
+
+/* Whether the iterator gives the name. */
+static securestore_status find(const char *name)
+{
+    uint8_t name_buf[SECURESTORE_NAME_MAX];
+    size_t name_len, next_slot;
+    return securestore_iterator_next(now.kv, sizeof now.kv, now.rbp, sizeof now.rbp, (const uint8_t *)name, strlen(name), 0, name_buf, sizeof name_buf,
+                                     &name_len, &next_slot);
+}
+
+/* Whether the chip's buffer has the name, by the layout that the header gives. */
+static int chip_has(const char *name)
+{
+    size_t i;
+    for (i = 0; i < SLOTS; i++) {
+        const uint8_t *slot = now.rbp + i * SECURESTORE_RBP_SLOT_SIZE;
+        if (slot[0] == 1 && slot[1] == strlen(name) && memcmp(slot + 2, name, strlen(name)) == 0) {
+            return 1;
+        }
+    }
+    return 0;
+}
+
+static int card_is(const struct media *want)
+{
+    return memcmp(now.kv, want->kv, sizeof now.kv) == 0;
+}
+
+static int chip_is(const struct media *want)
+{
+    return memcmp(now.rbp, want->rbp, sizeof now.rbp) == 0;
+}
+
+/* Media on which another name has a protected record. */
+static void begin(void)
+{
+    now = BLANK;
+    expect_status(set_named("other", 14), SECURESTORE_OK, "begin: another record");
+    before = now;
+}
+
+/* Power is lost between the two writes of a call that changed the media from 'before': only the card, or only the chip, has been written. */
+enum written { CARD, CHIP };
+
+static void lose_power(enum written written)
+{
+    if (written == CARD) {
+        memcpy(now.rbp, before.rbp, sizeof now.rbp);
+    } else {
+        memcpy(now.kv, before.kv, sizeof now.kv);
+    }
+}
+
+/* A first set of the name that was cut. */
+static void cut_set(uint32_t flags, enum written written)
+{
+    begin();
+    stored_flags = flags;
+    expect_status(set(flags), SECURESTORE_OK, "set: first");
+    lose_power(written);
+}
+
+/* A set of a name that the card and chip have, with the same flags, that was cut. */
+static void cut_second_set(uint32_t flags, enum written written)
+{
+    begin();
+    stored_flags = flags;
+    expect_status(set(flags), SECURESTORE_OK, "set: first of two");
+    before = now;
+    expect_status(set(flags), SECURESTORE_OK, "set: second of two");
+    lose_power(written);
+}
+
+static void cut_remove(uint32_t flags, enum written written)
+{
+    begin();
+    stored_flags = flags;
+    expect_status(set(flags), SECURESTORE_OK, "set: to be removed");
+    before = now;
+    expect_status(remove_it(), SECURESTORE_OK, "remove");
+    lose_power(written);
+}
+
+static void cut_reset(uint32_t flags, enum written written)
+{
+    begin();
+    stored_flags = flags;
+    expect_status(set(flags), SECURESTORE_OK, "set: to be reset");
+    before = now;
+    expect_status(reset(), SECURESTORE_OK, "reset");
+    lose_power(written);
+}
+
+/* What holds in both states: 12 for get and get_info, and a reset frees the name. The media stay as they were. */
+static void check_lost(void)
+{
+    const struct media cut = now;
+    uint32_t flags = 99;
+    expect_status(get(), SECURESTORE_ERR_ROLLBACK, "power: get");
+    expect_status(get_info(&flags), SECURESTORE_ERR_ROLLBACK, "power: get_info");
+    expect_status(reset(), SECURESTORE_OK, "power: reset");
+    expect(card_is(&BLANK) && chip_is(&BLANK), "power: reset clears both");
+    expect_status(set(13), SECURESTORE_OK, "power: after a reset the name is free");
+    now = cut;
+}
+
+/* First state, not write once: a set with the record's flags works, and so does a remove, which clears what the chip has. */
+static void check_card_has_it(uint32_t flags)
+{
+    const struct media cut = now;
+    check_lost();
+    expect_status(set(flags), SECURESTORE_OK, "card has the record: set with its flags");
+    expect_status(get(), SECURESTORE_OK, "card has the record: get after the set");
+    now = cut;
+    expect_status(remove_it(), SECURESTORE_OK, "card has the record: remove");
+    expect(!chip_has("a"), "card has the record: remove clears the chip's slot");
+    expect_status(get(), SECURESTORE_ERR_NOT_FOUND, "card has the record: get after the remove");
+    expect_status(get_named("other"), SECURESTORE_OK, "card has the record: the other record");
+}
+
+/* First state, write once: no set and no remove works until a reset. */
+static void check_card_has_it_write_once(void)
+{
+    const struct media cut = now;
+    size_t i;
+    check_lost();
+    for (i = 0; i < FLAGS_COUNT; i++) {
+        expect_status(set(FLAGS[i]), SECURESTORE_ERR_ALREADY_EXISTS, "card has the write-once record: set");
+    }
+    expect_status(remove_it(), SECURESTORE_ERR_ALREADY_EXISTS, "card has the write-once record: remove");
+    expect(card_is(&cut) && chip_is(&cut), "card has the write-once record: refusals change nothing");
+}
+
+/* Clears a chip slot without a record by a set with these flags and a remove; the card's bytes are as they were. */
+static void check_clear(uint32_t flags)
+{
+    const struct media cut = now;
+    expect_status(set(flags), SECURESTORE_OK, "clear: set");
+    expect_status(get(), SECURESTORE_OK, "clear: get");
+    expect_status(remove_it(), SECURESTORE_OK, "clear: remove");
+    expect(!chip_has("a") && card_is(&cut), "clear: the chip's slot is free and the card as it was");
+    expect_status(get(), SECURESTORE_ERR_NOT_FOUND, "clear: get after the remove");
+    expect_status(set(13), SECURESTORE_OK, "clear: the name is free for write once");
+    now = cut;
+}
+
+/* A set without replay protection works, but the remove after it leaves the chip's slot. */
+static void check_no_clear(uint32_t flags)
+{
+    const struct media cut = now;
+    expect_status(set(flags), SECURESTORE_OK, "no clear: set");
+    expect_status(get(), SECURESTORE_OK, "no clear: get");
+    expect_status(remove_it(), SECURESTORE_OK, "no clear: remove");
+    expect(card_is(&cut) && chip_is(&cut), "no clear: the chip's slot remains");
+    expect_status(get(), SECURESTORE_ERR_ROLLBACK, "no clear: get after the remove");
+    now = cut;
+}
+
+/* Second state, whatever flags the lost record had: the chip has the name, the card has not. */
+static void check_chip_has_it(void)
+{
+    const struct media cut = now;
+    size_t i;
+    check_lost();
+    expect(chip_has("a"), "chip has the name: it is in the chip's buffer");
+    expect_status(find("a"), SECURESTORE_ERR_NOT_FOUND, "chip has the name: the iterator does not give it");
+    expect_status(remove_it(), SECURESTORE_ERR_NOT_FOUND, "chip has the name: remove");
+    for (i = 0; i < FLAGS_COUNT; i++) {
+        if (FLAGS[i] & SECURESTORE_WRITE_ONCE) {
+            expect_status(set(FLAGS[i]), SECURESTORE_ERR_ALREADY_EXISTS, "chip has the name: set with write once");
+            expect(card_is(&cut) && chip_is(&cut), "chip has the name: a refusal changes nothing");
+        } else if (FLAGS[i] & SECURESTORE_REQUIRE_REPLAY_PROTECTION) {
+            check_clear(FLAGS[i]);
+        } else {
+            check_no_clear(FLAGS[i]);
+        }
+    }
+}
+
+/* Without replay protection the chip is not changed: one write, so either all of the call is stored or nothing. */
+static void test_power_one_write(void)
+{
+    size_t i;
+    for (i = 0; i < FLAGS_COUNT; i++) {
+        if ((FLAGS[i] & SECURESTORE_REQUIRE_REPLAY_PROTECTION) == 0) {
+            cut_set(FLAGS[i], CARD);
+            expect(chip_is(&before), "one write: set leaves the chip");
+            expect_status(get(), SECURESTORE_OK, "one write: card written");
+            cut_set(FLAGS[i], CHIP);
+            expect(card_is(&before) && chip_is(&before), "one write: without the card nothing is stored");
+            if ((FLAGS[i] & SECURESTORE_WRITE_ONCE) == 0) {
+                cut_remove(FLAGS[i], CARD);
+                expect(chip_is(&before), "one write: remove leaves the chip");
+                expect_status(get(), SECURESTORE_ERR_NOT_FOUND, "one write: removed");
+            }
+        }
+    }
+}
+
+static void test_power(void)
+{
+    static const uint32_t flags[] = {12, 14};
+    size_t i;
+    for (i = 0; i < 2; i++) {
+        cut_set(flags[i], CARD);
+        check_card_has_it(flags[i]);
+        cut_set(flags[i], CHIP);
+        check_chip_has_it();
+        cut_second_set(flags[i], CARD);
+        check_card_has_it(flags[i]);
+        cut_second_set(flags[i], CHIP);
+        check_card_has_it(flags[i]);
+        cut_remove(flags[i], CARD);
+        check_chip_has_it();
+        cut_remove(flags[i], CHIP);
+        check_card_has_it(flags[i]);
+    }
+}
+
+static void test_power_write_once(void)
+{
+    static const uint32_t flags[] = {13, 15};
+    uint8_t kept[sizeof now.rbp];
+    size_t i;
+    for (i = 0; i < 2; i++) {
+        cut_set(flags[i], CARD);
+        check_card_has_it_write_once();
+        cut_set(flags[i], CHIP);
+        check_chip_has_it();
+        cut_reset(flags[i], CARD);
+        check_chip_has_it();
+        cut_reset(flags[i], CHIP);
+        check_card_has_it_write_once();
+        /* The chip's buffer was kept and is written after all. */
+        begin();
+        expect_status(set(flags[i]), SECURESTORE_OK, "set: write once");
+        memcpy(kept, now.rbp, sizeof kept);
+        lose_power(CARD);
+        expect_status(get(), SECURESTORE_ERR_ROLLBACK, "power: before the chip is written after all");
+        memcpy(now.rbp, kept, sizeof kept);
+        expect_status(get(), SECURESTORE_OK, "power: the chip is written after all");
+    }
+}
+
+/* The room that clearing a chip's slot needs. */
+static void test_clear_room(void)
+{
+    now = BLANK;
+    stored_flags = 13;
+    expect_status(set(13), SECURESTORE_OK, "room: set");
+    expect_status(set_named("b", PROTECTED), SECURESTORE_OK, "room: set b");
+    expect_status(set_named("c", PROTECTED), SECURESTORE_OK, "room: set c");
+    memset(now.kv, 0, sizeof now.kv);
+    expect_status(set_named("d", PROTECTED), SECURESTORE_ERR_NO_SPACE, "room: the chip is full of slots without a record");
+    check_clear(12);
+    expect_status(set(12), SECURESTORE_OK, "room: set in a full chip");
+    expect_status(remove_it(), SECURESTORE_OK, "room: remove");
+    expect_status(set_named("d", PROTECTED), SECURESTORE_OK, "room: the chip has a free slot");
+    expect_status(set_named("e", 0), SECURESTORE_OK, "room: set e");
+    expect_status(set_named("f", 0), SECURESTORE_OK, "room: the card is full");
+    expect_status(set_named("b", PROTECTED), SECURESTORE_ERR_NO_SPACE, "room: clearing needs a free slot on the card");
+    expect_status(remove_named("f"), SECURESTORE_OK, "room: remove f");
+    expect_status(set_named("b", PROTECTED), SECURESTORE_OK, "room: set b");
+    expect_status(remove_named("b"), SECURESTORE_OK, "room: remove b");
+    expect(!chip_has("b") && chip_has("c") && chip_has("d"), "room: one slot is cleared");
+}
+
+/* Write once while the card has the record, then under a blank card. */
+static void test_write_once(void)
+{
+    size_t i, j;
+    for (i = 0; i < FLAGS_COUNT; i++) {
+        if (FLAGS[i] & SECURESTORE_WRITE_ONCE) {
+            struct media with;
+            int in_chip = (FLAGS[i] & SECURESTORE_REQUIRE_REPLAY_PROTECTION) != 0;
+            now = BLANK;
+            stored_flags = FLAGS[i];
+            expect_status(set(FLAGS[i]), SECURESTORE_OK, "write once: set");
+            with = now;
+            expect_status(remove_it(), SECURESTORE_ERR_ALREADY_EXISTS, "write once: remove");
+            for (j = 0; j < FLAGS_COUNT; j++) {
+                securestore_status want = in_chip && (FLAGS[j] & SECURESTORE_WRITE_ONCE) ? SECURESTORE_ERR_ALREADY_EXISTS : SECURESTORE_OK;
+                uint32_t flags = 99;
+                now = with;
+                expect_status(set(FLAGS[j]), SECURESTORE_ERR_ALREADY_EXISTS, "write once: set again");
+                memset(now.kv, 0, sizeof now.kv);
+                expect_status(get(), in_chip ? SECURESTORE_ERR_ROLLBACK : SECURESTORE_ERR_NOT_FOUND, "write once: get on a blank card");
+                expect_status(set(FLAGS[j]), want, "write once: set on a blank card");
+                if (want == SECURESTORE_OK) {
+                    expect_status(get_info(&flags), SECURESTORE_OK, "write once: get_info of the new record");
+                    expect(flags == FLAGS[j], "write once: get_info gives the new flags");
+                }
+            }
+            now = with;
+            expect_status(reset(), SECURESTORE_OK, "write once: reset");
+            expect_status(set(FLAGS[i]), SECURESTORE_OK, "write once: the name is free after a reset");
+        }
+    }
+}
+
+static void check_damaged(void)
+{
+    const struct media damaged = now;
+    uint8_t key_buf[SECURESTORE_KEY_FILE_MAX];
+    uint32_t flags;
+    size_t i, count;
+    for (i = 0; i < FLAGS_COUNT; i++) {
+        expect_status(set(FLAGS[i]), SECURESTORE_ERR_CORRUPT, "0xff: set");
+    }
+    expect_status(get(), SECURESTORE_ERR_CORRUPT, "0xff: get");
+    expect_status(get_info(&flags), SECURESTORE_ERR_CORRUPT, "0xff: get_info");
+    expect_status(remove_it(), SECURESTORE_ERR_CORRUPT, "0xff: remove");
+    expect_status(find("a"), SECURESTORE_ERR_CORRUPT, "0xff: iterator_next");
+    expect_status(securestore_save_key(now.kv, sizeof now.kv, now.rbp, sizeof now.rbp, KEY, sizeof KEY, 42, 1, 2, 3, 4, 5, KEY, sizeof KEY, 14, KEY, 8),
+                  SECURESTORE_ERR_CORRUPT, "0xff: save_key");
+    expect_status(securestore_load_key(now.kv, sizeof now.kv, now.rbp, sizeof now.rbp, KEY, sizeof KEY, 42, key_buf, sizeof key_buf, &count),
+                  SECURESTORE_ERR_CORRUPT, "0xff: load_key");
+    expect(card_is(&damaged) && chip_is(&damaged), "0xff: refusals change nothing");
+    expect_status(reset(), SECURESTORE_OK, "0xff: reset");
+    expect(card_is(&BLANK) && chip_is(&BLANK), "0xff: reset makes both all zero");
+    expect_status(set(14), SECURESTORE_OK, "0xff: set after a reset");
+}
+
+static void test_erased_flash(void)
+{
+    size_t i;
+    stored_flags = 0;
+    for (i = 0; i < 3; i++) {
+        now = BLANK;
+        if (i != 0) {
+            memset(now.kv, 0xff, sizeof now.kv);
+        }
+        if (i != 1) {
+            memset(now.rbp, 0xff, sizeof now.rbp);
+        }
+        check_damaged();
+    }
+    for (i = 0; i < SLOTS; i++) {
+        begin();
+        memset(now.kv + i * SECURESTORE_KV_SLOT_SIZE, 0xff, SECURESTORE_KV_SLOT_SIZE);
+        check_damaged();
+        begin();
+        memset(now.rbp + i * SECURESTORE_RBP_SLOT_SIZE, 0xff, SECURESTORE_RBP_SLOT_SIZE);
+        check_damaged();
+    }
+    /* A new card beside a chip in use: only the card is made all zero. */
+    begin();
+    memset(now.kv, 0xff, sizeof now.kv);
+    expect_status(set(14), SECURESTORE_ERR_CORRUPT, "0xff: new card");
+    memset(now.kv, 0, sizeof now.kv);
+    expect(chip_is(&before), "0xff: the chip's contents are kept");
+    expect_status(set(14), SECURESTORE_OK, "0xff: set on a new card");
+    expect_status(get_named("other"), SECURESTORE_ERR_ROLLBACK, "0xff: the chip still knows the other name");
+}
+
+int main(void)
+{
+    static void (*const tests[])(void) = {test_power_one_write, test_power, test_power_write_once, test_clear_room, test_write_once, test_erased_flash};
+    unsigned passed = 0, failed = 0;
+    size_t i;
+    for (i = 0; i < sizeof tests / sizeof tests[0]; i++) {
+        wrong = 0;
+        tests[i]();
+        if (wrong == 0) {
+            passed++;
+        } else {
+            failed++;
+        }
+    }
+    printf("%u passed, %u failed\n", passed, failed);
+    return failed != 0;
+}
