@@ -1,5 +1,6 @@
 /* The night of the old card: someone takes the card out, keeps a copy, and puts the copy back later.
  * Every record on the copy is authentic, and still the store refuses it, since the chip knows a newer one.
+ * Then someone writes a record without protection to the card: a get accepts it, and a reader that compares the flags does not.
  * The program checks every answer, and its exit status is 0 only if all are as the header says. */
 #include <stdio.h>
 #include <stdlib.h>
@@ -25,46 +26,79 @@ static void check(int holds, const char *what)
     }
 }
 
-/* Each set has an IV of its own: here a counter, which a box keeps where it cannot be put back. */
-static uint32_t set(const char *name, const char *text)
+/* Each set has an IV of its own: a 64-bit big-endian counter, which a box keeps where it cannot be put back. */
+static void next_iv(uint8_t iv[SECURESTORE_IV_SIZE])
+{
+    size_t i = SECURESTORE_IV_SIZE;
+    do {
+        i--;
+        iv[i]++;
+    } while (iv[i] == 0 && i > 0);
+}
+
+static securestore_status set(const char *name, const char *text)
 {
     static uint8_t iv[SECURESTORE_IV_SIZE];
-    iv[SECURESTORE_IV_SIZE - 1]++;
+    next_iv(iv);
     return securestore_set(card, sizeof card, chip, sizeof chip, DEVICE_KEY, sizeof DEVICE_KEY, (const uint8_t *)name, strlen(name), FLAGS, iv, sizeof iv,
                            (const uint8_t *)text, strlen(text));
 }
 
-/* The flags stand on the card: what is read is to be believed only if they ask for the protection that this box sets. */
-static int is_protected(const uint8_t *some_card, const char *name)
-{
-    uint32_t data_size, flags;
-    return securestore_get_info(some_card, sizeof card, chip, sizeof chip, DEVICE_KEY, sizeof DEVICE_KEY, (const uint8_t *)name, strlen(name), &data_size,
-                                &flags) == SECURESTORE_OK &&
-           flags == FLAGS;
-}
-
-/* Reads a record as text from some card under the box's chip, says how that went, and gives the status. */
-static uint32_t read_from(const uint8_t *some_card, const char *name, char *text, size_t size)
+/* A get alone: it checks what the stored flags ask for, and no more. */
+static securestore_status get(const uint8_t *some_card, const char *name, char *text, size_t size)
 {
     size_t count = 1;
-    uint32_t status = securestore_get(some_card, sizeof card, chip, sizeof chip, DEVICE_KEY, sizeof DEVICE_KEY, (const uint8_t *)name, strlen(name), 0,
-                                      (uint8_t *)text, size - 1, &count);
+    securestore_status status = securestore_get(some_card, sizeof card, chip, sizeof chip, DEVICE_KEY, sizeof DEVICE_KEY, (const uint8_t *)name,
+                                                strlen(name), 0, (uint8_t *)text, size - 1, &count);
     check(status == SECURESTORE_OK || count == 0, "a refusal gives count 0");
     text[count] = '\0';
-    if (status == SECURESTORE_OK) {
-        check(is_protected(some_card, name), "the record asks for all protection");
-        printf("  %s: \"%s\"\n", name, text);
-    } else {
-        printf("  %s: refused with %u\n", name, (unsigned)status);
-    }
     return status;
+}
+
+/* What a reader of protected data does: the flags stand on the card, so it asks for them on the same buffers, and reads only if they are the ones that
+ * this box sets. Returns 1 if the data are read; *status is the store's answer. */
+static int read_protected(const uint8_t *some_card, const char *name, char *text, size_t size, securestore_status *status)
+{
+    uint32_t data_size, flags;
+    text[0] = '\0';
+    *status = securestore_get_info(some_card, sizeof card, chip, sizeof chip, DEVICE_KEY, sizeof DEVICE_KEY, (const uint8_t *)name, strlen(name),
+                                   &data_size, &flags);
+    if (*status == SECURESTORE_OK && flags != FLAGS) {
+        printf("  %s: not read, its flags are %u and not %u\n", name, (unsigned)flags, (unsigned)FLAGS);
+        return 0;
+    }
+    if (*status == SECURESTORE_OK) {
+        *status = get(some_card, name, text, size);
+    }
+    if (*status != SECURESTORE_OK) {
+        printf("  %s: refused with %u, %s\n", name, (unsigned)*status, securestore_status_text(*status));
+        return 0;
+    }
+    printf("  %s: \"%s\"\n", name, text);
+    return 1;
+}
+
+/* Expects that the data are read and are this text. */
+static void expect_text(const uint8_t *some_card, const char *name, const char *want)
+{
+    char text[SECURESTORE_DATA_MAX + 1];
+    securestore_status status;
+    check(read_protected(some_card, name, text, sizeof text, &status) && strcmp(text, want) == 0, want);
+}
+
+/* Expects that the store refuses with this status. */
+static void expect_refusal(const uint8_t *some_card, const char *name, securestore_status want)
+{
+    char text[SECURESTORE_DATA_MAX + 1];
+    securestore_status status;
+    check(!read_protected(some_card, name, text, sizeof text, &status) && status == want, securestore_status_text(want));
 }
 
 static void list_names(void)
 {
     uint8_t name[SECURESTORE_NAME_MAX];
     size_t name_len, slot = 0, found = 0;
-    uint32_t status;
+    securestore_status status;
     while ((status = securestore_iterator_next(card, sizeof card, chip, sizeof chip, (const uint8_t *)"player/", 7, slot, name, sizeof name, &name_len,
                                                &slot)) == SECURESTORE_OK) {
         printf("  slot %u: %.*s\n", (unsigned)slot - 1, (int)name_len, (const char *)name);
@@ -76,7 +110,6 @@ static void list_names(void)
 /* Two records, a copy of the card, and a newer record of player/1. */
 static void play(uint8_t *copy)
 {
-    char text[SECURESTORE_DATA_MAX + 1];
     printf("Sound check: card and chip are cleared, and two players have their mixes stored.\n");
     check(securestore_reset(card, sizeof card, chip, sizeof chip) == SECURESTORE_OK, "reset");
     check(set("player/1", "sends: cello 3.0, piano 1.0") == SECURESTORE_OK, "set player/1");
@@ -86,7 +119,7 @@ static void play(uint8_t *copy)
     memcpy(copy, card, sizeof card);
     printf("Rehearsal: player/1 asks for another mix.\n");
     check(set("player/1", "sends: cello 3.5, piano 0.5") == SECURESTORE_OK, "set player/1 again");
-    check(read_from(card, "player/1", text, sizeof text) == SECURESTORE_OK && strcmp(text, "sends: cello 3.5, piano 0.5") == 0, "the new record is read");
+    expect_text(card, "player/1", "sends: cello 3.5, piano 0.5");
 }
 
 static void put_back(uint8_t *copy)
@@ -94,28 +127,48 @@ static void put_back(uint8_t *copy)
     char text[SECURESTORE_DATA_MAX + 1];
     uint32_t data_size = 1, flags = 1;
     printf("The copy is put back. Its records are authentic, but the chip knows a newer one of player/1:\n");
-    check(read_from(copy, "player/1", text, sizeof text) == SECURESTORE_ERR_ROLLBACK, "the old record is refused with 12");
+    expect_refusal(copy, "player/1", SECURESTORE_ERR_ROLLBACK);
+    check(get(copy, "player/1", text, sizeof text) == SECURESTORE_ERR_ROLLBACK, "a get alone refuses the old record too");
     check(securestore_get_info(copy, sizeof card, chip, sizeof chip, DEVICE_KEY, sizeof DEVICE_KEY, (const uint8_t *)"player/1", 8, &data_size, &flags) ==
               SECURESTORE_ERR_ROLLBACK,
           "so is the question for its size and flags");
     check(data_size == 0 && flags == 0, "a refusal gives zeros");
     printf("player/2 was not set since, so its record is the one that the chip knows:\n");
-    check(read_from(copy, "player/2", text, sizeof text) == SECURESTORE_OK && strcmp(text, "sends: cello 3.0, piano 1.0") == 0, "player/2 is read");
+    expect_text(copy, "player/2", "sends: cello 3.0, piano 1.0");
     printf("An empty card is no way out either:\n");
     memset(copy, 0, sizeof card);
-    check(read_from(copy, "player/1", text, sizeof text) == SECURESTORE_ERR_ROLLBACK, "a missing record that the chip knows is refused with 12");
+    expect_refusal(copy, "player/1", SECURESTORE_ERR_ROLLBACK);
+}
+
+/* A record with flags 0 has no CMAC: it is made without the device key and without the chip. */
+static void forge(uint8_t *forged)
+{
+    static const uint8_t no_key[SECURESTORE_DEVICE_KEY_SIZE], no_iv[SECURESTORE_IV_SIZE];
+    static uint8_t own_chip[sizeof chip];
+    static const char *lie = "sends: all muted";
+    char text[SECURESTORE_DATA_MAX + 1];
+    securestore_status status;
+    memset(forged, 0, sizeof card);
+    check(securestore_set(forged, sizeof card, own_chip, sizeof own_chip, no_key, sizeof no_key, (const uint8_t *)"player/1", 8, 0, no_iv, sizeof no_iv,
+                          (const uint8_t *)lie, strlen(lie)) == SECURESTORE_OK,
+          "a record without protection is made");
+    printf("Someone puts in a card with a record of player/1 that asks for no protection. A get alone accepts it:\n");
+    check(get(forged, "player/1", text, sizeof text) == SECURESTORE_OK && strcmp(text, lie) == 0, "a get checks what the stored flags ask for");
+    printf("  player/1: \"%s\"\n", text);
+    printf("The reader that compares the flags does not:\n");
+    check(!read_protected(forged, "player/1", text, sizeof text, &status) && status == SECURESTORE_OK, "the flags are not the ones that this box sets");
 }
 
 int main(void)
 {
     static uint8_t copy[sizeof card];
-    char text[SECURESTORE_DATA_MAX + 1];
     play(copy);
     put_back(copy);
+    forge(copy);
     printf("With the true card all is as it was, and player/1 can leave:\n");
-    check(read_from(card, "player/1", text, sizeof text) == SECURESTORE_OK, "the true card is read");
+    expect_text(card, "player/1", "sends: cello 3.5, piano 0.5");
     check(securestore_remove(card, sizeof card, chip, sizeof chip, (const uint8_t *)"player/1", 8) == SECURESTORE_OK, "player/1 leaves");
-    check(read_from(card, "player/1", text, sizeof text) == SECURESTORE_ERR_NOT_FOUND, "a removed name is not found");
+    expect_refusal(card, "player/1", SECURESTORE_ERR_NOT_FOUND);
     printf("Every answer was as expected.\n");
     return 0;
 }

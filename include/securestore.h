@@ -27,8 +27,8 @@
  *   Clearing the chip's slot, as below, makes the name free again, for write once too; no reset is needed.
  * So write the chip first: a write-once set then ends in the second state, and a remove can be repeated. A reset can be repeated in either order.
  *
- * Chip slots without a record. They remain after a power loss as above, or where another card is put in, and they occupy the chip. The iterator reads
- * the card alone and does not give their names. In the chip's buffer a used slot has 1 in byte 0, the name's length in byte 1, the name from byte 2 on.
+ * Chip slots without a record. They remain after a power loss as above, or where another card is put in, and they occupy the chip. The iterator gives
+ * the card's names alone, not theirs. In the chip's buffer a used slot has 1 in byte 0, the name's length in byte 1, the name from byte 2 on.
  * To clear one, set the name with integrity and replay protection but not write once (flags 12 or 14, any data), then remove it. This needs a free slot
  * on the card (else the set answers 10) and none in the chip, and it leaves the card's bytes as they were. If the set is without replay protection, the
  * remove clears the card's slot alone and the chip's remains.
