@@ -2,7 +2,7 @@
  *
  * The library keeps nothing between calls, allocates nothing and does no input or output. The caller reads the card (kv) and the chip (rbp) into two
  * buffers, lends them to a call, and writes both back, the chip first, after a set, save_key, remove or reset that answered SECURESTORE_OK. A call's
- * stack was measured at 6.2 kB at most (save_key, x86-64); what a call leaves there, plaintext and derived keys among it, is not wiped.
+ * stack was measured at 6.3 kB at most (save_key, x86-64); what a call leaves there, plaintext and derived keys among it, is not wiped.
  *
  * Pointers. The library is proved for lent memory, and what makes memory lent is the caller's part:
  * - no pointer is null, also where its length is 0;
@@ -58,7 +58,7 @@ typedef uint32_t securestore_status;
 
 #define SECURESTORE_OK 0u
 #define SECURESTORE_ERR_LENGTH 1u         /* card, chip, device key, IV, name buffer or key buffer of a wrong length */
-#define SECURESTORE_ERR_CORRUPT 2u        /* card or chip is damaged: one bad slot is enough, and only a reset recovers */
+#define SECURESTORE_ERR_CORRUPT 2u        /* card or chip is damaged: one bad slot is enough; a reset recovers, or a zeroed card */
 #define SECURESTORE_ERR_INVALID_NAME 3u   /* bad name, prefix or key identifier */
 #define SECURESTORE_ERR_INVALID_FLAGS 4u  /* unknown bits, or replay protection without integrity */
 #define SECURESTORE_ERR_DATA_SIZE 5u      /* more data than a record holds */

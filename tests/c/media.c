@@ -47,7 +47,7 @@ static securestore_status set_named(const char *name, uint32_t flags)
 {
     static uint8_t iv[SECURESTORE_IV_SIZE], data[3];
     iv[7]++;
-    data[0]++; /* so that no two records have one CMAC */
+    data[0]++; /* so that no two records in a row have one CMAC */
     tried_flags = flags;
     return securestore_set(now.kv, sizeof now.kv, now.rbp, sizeof now.rbp, KEY, sizeof KEY, (const uint8_t *)name, strlen(name), flags, iv, sizeof iv, data,
                            sizeof data);

@@ -6,36 +6,32 @@ use Prim.Native.Nat.{ℕ, _-_, _≤_, min}
 use native.Mathlib.Omega.{arith}
 use borrow.Author.Tests.{leb-true, le-leb, lt-leb, eqb-true, eqb-false}
 use lib.Dec.{leb}
-use lib.ListN.{length, drop}
+use lib.ListN.{length, drop, length-take, length-drop}
 use lib.Seq.{take-all, take-at, take-append-seam}
-use Rattle.spec.specs.Bytes.{zeros}
+use Rattle.buffers.specs.Bytes.{every, zeros}
 use Rattle.spec.specs.Status.{ok, isListed, isOk, refuseIf, firstOf, Answer}
 use Rattle.spec.specs.Name.{keyName}
-use Rattle.spec.specs.Record.{dataSizeOf, plaintext, crypt, encKey}
+use Rattle.spec.specs.Record.{requireConfidentiality, dataSizeOf, flagsOf, ivOf, storedDataOf, crypt, encKey}
 use Rattle.spec.specs.Interleaving.{Outcome}
 use Rattle.spec.specs.Calls.{Areas, areas, storeSet, storeGet}
 use Rattle.spec.specs.Demand1.{Well}
 use Rattle.spec.specs.Demand2.{Readable, opened, Stores}
-use Rattle.spec.proofs.Split.{split, not-false-is}
-use Rattle.spec.proofs.Status.{refuse-either, passed, on-refused}
+use Rattle.buffers.proofs.Split.{split, not-false-is}
+use Rattle.spec.proofs.Status.{first-listed, passed, on-refused}
 use Rattle.spec.proofs.Demand1.{demand1-holds}
 use Rattle.spec.proofs.Get.{get-exact}
 use Rattle.spec.proofs.Set.{round-trip, set-exact}
-use Rattle.records.proofs.Valid.{valid-sized}
-use Rattle.records.proofs.Sealed.{plaintext-length}
+use Rattle.spec.proofs.Record.{ValidRecord, valid-record, crypt-length}
 use Rattle.keys.specs.KeyFile.{formatKeyFile, keyFileValid}
 use Rattle.keys.specs.Calls.{keyFileAnswer, formatTests, writeKeyFile, saveKey, keyRecord, fileOf, loadTests, loadKey}
 use Rattle.keys.specs.Laws.{WellFormed, KeyCallsWell, KeyRefusals, holding, FormatGives, LoadReady, LoadExact, SaveExact, SaveLoads}
 use Rattle.keys.specs.declared.key_file.KeyAttributes.{KeyAttributes}
 use Rattle.keys.proofs.Header.{well-formed, is-valid}
 use Rattle.keys.proofs.Written.{file-length, answer-done, short-buffer, long-material, writes}
-use Rattle.keys.proofs.Loaded.{short-buffer as short-load, not-got, not-a-file}
+use Rattle.keys.proofs.Loaded.{not-got, not-a-file, loads}
 use Rattle.keys.proofs.FileLaws.{written-formed}
 
 -- ---- demand 1
-
-refuse-listed : (t : Bool) (number rest : ℕ) → isListed number ≡ true → isListed rest ≡ true → isListed (refuseIf t number rest) ≡ true
-refuse-listed t number rest p q = refuse-either (λ n. isListed n ≡ true) t number rest p q
 
 well : (n : ℕ) (file buf : List ℕ) (s : Areas) → isListed n ≡ true → Well 1 buf s (record { answer = keyFileAnswer n file buf; after = s })
 unfolding keyFileAnswer
@@ -48,7 +44,11 @@ well n file buf s l = record {
 
 format-listed : (m buf : List ℕ) → isListed (firstOf (formatTests m buf)) ≡ true
 unfolding formatTests isListed
-format-listed m buf = refuse-listed (not (leb 480 (length buf))) 1 _ refl (refuse-listed (not (leb (length m) 444)) 13 0 refl refl)
+format-listed m buf = first-listed (formatTests m buf) refl
+
+listed-with : (n : ℕ) → isListed n ≡ true → every isListed (1 ∷ n ∷ 13 ∷ []) ≡ true
+unfolding isListed
+listed-with n h = rw h
 
 module _ (kv rbp key : List ℕ) (id : ℕ) where
   got-listed : isListed (keyRecord kv rbp key id .status) ≡ true
@@ -56,11 +56,8 @@ module _ (kv rbp key : List ℕ) (id : ℕ) where
   got-listed = demand1-holds .of-get kv rbp key (keyName id) 0 (zeros 480) .listed
 
   load-listed : (buf : List ℕ) → isListed (firstOf (loadTests kv rbp key id buf)) ≡ true
-  unfolding loadTests isListed
-  load-listed buf =
-      let g = keyRecord kv rbp key id in
-      refuse-listed (not (leb 480 (length buf))) 1 _ refl
-      (refuse-listed (not (isOk (g .status))) (g .status) _ got-listed (refuse-listed (not (keyFileValid (fileOf g))) 13 0 refl refl))
+  unfolding loadTests
+  load-listed buf = first-listed (loadTests kv rbp key id buf) (listed-with (keyRecord kv rbp key id .status) got-listed)
 
 fits-well : (t : Bool) (kv rbp : List ℕ) (o : Outcome Areas Answer) → Well 0 [] (areas kv rbp) o
     → Well 0 [] (areas kv rbp) (cond t o (record { answer = record { status = 13; numbers = []; output = [] }; after = areas kv rbp }))
@@ -72,8 +69,11 @@ pub key-calls-well : KeyCallsWell
 unfolding writeKeyFile saveKey loadKey
 key-calls-well = record {
   of-format = λ s a m buf. well (firstOf (formatTests m buf)) (formatKeyFile a m) buf s (format-listed m buf);
-  of-save = λ kv rbp key id a m flags iv. fits-well (leb (length m) 444) kv rbp _ (demand1-holds .of-set kv rbp key (keyName id) flags iv (formatKeyFile a m));
-  of-load = λ kv rbp key id buf. well (firstOf (loadTests kv rbp key id buf)) (fileOf (keyRecord kv rbp key id)) buf (areas kv rbp) (load-listed kv rbp key id buf);
+  of-save = λ kv rbp key id a m flags iv.
+      fits-well (leb (length m) 444) kv rbp _ (demand1-holds .of-set kv rbp key (keyName id) flags iv (formatKeyFile a m));
+  of-load = λ kv rbp key id buf.
+      let n = firstOf (loadTests kv rbp key id buf) in
+      well n (fileOf (keyRecord kv rbp key id)) buf (areas kv rbp) (load-listed kv rbp key id buf);
 }
 
 -- ---- what a get of a key's record gives
@@ -81,6 +81,15 @@ key-calls-well = record {
 got-ok : (s next : ℕ) → refuseIf (not (isOk s)) s next ≡ ok → (s ≡ ok) × (next ≡ ok)
 unfolding refuseIf
 got-ok s next h = split (isOk s) (λ e. (eqb-true s ok e, rw e at h)) (λ e. absurd (eqb-false s ok e (rw e at h)))
+
+-- a valid record opens to as many bytes as it says
+opened-length : (key name r : List ℕ) → ValidRecord r → length (opened key name r) ≡ dataSizeOf r
+unfolding crypt encKey
+opened-length key name r v =
+    let stored : length (storedDataOf r) ≡ dataSizeOf r = rw (length-take, length-drop) (omega (arith, v .record-length)) in
+    split (requireConfidentiality (flagsOf r))
+    (λ e. rw (length-take, e, crypt-length key name (ivOf r) (storedDataOf r), stored) (omega arith))
+    (λ e. rw (length-take, e, stored) (omega arith))
 
 module _ (kv rbp key : List ℕ) (id : ℕ) where
   got-readable : keyRecord kv rbp key id .status ≡ ok → Readable kv rbp key (keyName id) 0
@@ -93,15 +102,16 @@ module _ (kv rbp key : List ℕ) (id : ℕ) where
 
   -- the whole plaintext fits into 480 bytes
   file-opened : (h : Readable kv rbp key (keyName id) 0) → fileOf (keyRecord kv rbp key id) ≡ opened key (keyName id) (h .r)
-  unfolding keyRecord plaintext crypt encKey
+  unfolding keyRecord
   file-opened h =
       let r = h .r in
+      let n = dataSizeOf r in
       let p = opened key (keyName id) r in
-      let s = valid-sized r (h .valid) in
-      let n : length p ≡ dataSizeOf r = plaintext-length key (keyName id) r s in
-      let c : min 480 (dataSizeOf r - 0) ≡ dataSizeOf r = omega (arith, s .small) in
+      let v = valid-record r (h .valid) in
+      let whole = opened-length key (keyName id) r v in
+      let c : min 480 (n - 0) ≡ n = omega (arith, v .data-size) in
       ap (λ (o : Outcome Areas Answer). fileOf (o .answer)) (get-exact kv rbp key (keyName id) 0 (zeros 480) .gives h)
-      ∙ rw (c, take-all (dataSizeOf r) p (omega arith)) (take-at p (drop (dataSizeOf r) (zeros 480)) (dataSizeOf r) n)
+      ∙ rw (c, take-all n p (omega arith)) (take-at p (drop n (zeros 480)) n whole)
 
   -- ---- a load
 
@@ -120,25 +130,35 @@ module _ (kv rbp key : List ℕ) (id : ℕ) where
           well-formed = rw (file-opened r) at (well-formed f (not-false-is (keyFileValid f) (b .0)));
         }
 
-    ready-loads : LoadReady kv rbp key id buf → firstOf (loadTests kv rbp key id buf) ≡ ok
-    unfolding loadTests refuseIf
-    ready-loads h =
-        let f = fileOf (keyRecord kv rbp key id) in
-        let v : keyFileValid f ≡ true = is-valid f (rw (file-opened (h .readable)) (h .well-formed)) in
-        rw (le-leb 480 (length buf) (h .room), readable-got (h .readable), v)
+    -- a load of a record that is a file
+    module _ (f : List ℕ) (room : 480 ≤ length buf) (got : keyRecord kv rbp key id .status ≡ ok) (is-f : fileOf (keyRecord kv rbp key id) ≡ f)
+        (formed : WellFormed f) where
+      file-loads : firstOf (loadTests kv rbp key id buf) ≡ ok
+      file-loads = loads kv rbp key id buf room (keyRecord kv rbp key id) refl got (rw is-f (is-valid f formed))
 
-    ready-gives : (h : LoadReady kv rbp key id buf) → loadKey kv rbp key id buf ≡ holding buf (opened key (keyName id) (h .readable .r))
-    unfolding loadKey
-    ready-gives h =
-        let p = opened key (keyName id) (h .readable .r) in
-        ap (λ (f : List ℕ). keyFileAnswer (firstOf (loadTests kv rbp key id buf)) f buf) (file-opened (h .readable))
-        ∙ sym (answer-done (firstOf (loadTests kv rbp key id buf)) (length p) p buf _ (ready-loads h) refl refl)
+      pub file-loaded : loadKey kv rbp key id buf ≡ holding buf f
+      unfolding loadKey
+      file-loaded =
+          let status = firstOf (loadTests kv rbp key id buf) in
+          ap (λ (l : List ℕ). keyFileAnswer status l buf) is-f ∙ sym (answer-done status (length f) f buf _ file-loads refl refl)
 
-    file-refused : 480 ≤ length buf → (h : Readable kv rbp key (keyName id) 0) → ¬ WellFormed (opened key (keyName id) (h .r)) → firstOf (loadTests kv rbp key id buf) ≡ 13
+    module _ (h : LoadReady kv rbp key id buf) where
+      abbrev file : List ℕ
+      file = opened key (keyName id) (h .readable .r)
+
+      ready-loads : firstOf (loadTests kv rbp key id buf) ≡ ok
+      ready-loads = file-loads file (h .room) (readable-got (h .readable)) (file-opened (h .readable)) (h .well-formed)
+
+      ready-gives : loadKey kv rbp key id buf ≡ holding buf file
+      ready-gives = file-loaded file (h .room) (readable-got (h .readable)) (file-opened (h .readable)) (h .well-formed)
+
+    file-refused : 480 ≤ length buf → (h : Readable kv rbp key (keyName id) 0) → ¬ WellFormed (opened key (keyName id) (h .r))
+        → firstOf (loadTests kv rbp key id buf) ≡ 13
     file-refused l h w =
         let g = keyRecord kv rbp key id in
-        let v : keyFileValid (fileOf g) ≡ false = split (keyFileValid (fileOf g)) (λ e. absurd (w (rw (file-opened h) at (well-formed (fileOf g) e)))) (λ e. e) in
-        sym (not-a-file kv rbp key id buf l g refl (readable-got h) v)
+        let v : keyFileValid (fileOf g) ≡ false =
+        split (keyFileValid (fileOf g)) (λ e. absurd (w (rw (file-opened h) at (well-formed (fileOf g) e)))) (λ e. e) in
+        not-a-file kv rbp key id buf l g refl (readable-got h) v
 
 pub load-exact : LoadExact
 unfolding loadKey keyFileAnswer
@@ -154,13 +174,13 @@ format-gives a m buf h k =
     sym (answer-done (firstOf (formatTests m buf)) (length f) f buf _ (writes m buf h k) refl refl)
 
 pub key-refusals : KeyRefusals
-unfolding writeKeyFile keyFileAnswer saveKey loadKey keyRecord
+unfolding writeKeyFile formatTests keyFileAnswer saveKey loadKey loadTests keyRecord
 key-refusals = record {
-  format-length = λ a m buf h. sym (short-buffer m buf h);
-  format-material = λ a m buf h k. sym (long-material m buf h k);
+  format-length = λ a m buf h. short-buffer buf _ h;
+  format-material = λ a m buf h k. long-material m buf h k;
   save-material = λ kv rbp key id a m flags iv h. rw (lt-leb (length m) 444 h);
-  load-length = λ kv rbp key id buf h. sym (short-load kv rbp key id buf h);
-  load-get = λ kv rbp key id buf l n. sym (not-got kv rbp key id buf l (keyRecord kv rbp key id) refl n);
+  load-length = λ kv rbp key id buf h. short-buffer buf _ h;
+  load-get = λ kv rbp key id buf l n. not-got kv rbp key id buf l (keyRecord kv rbp key id) refl n;
   load-file = file-refused;
 }
 
@@ -171,22 +191,13 @@ saved-fits : (t : Bool) (kv rbp : List ℕ) (o : Outcome Areas Answer)
 saved-fits true kv rbp o h = refl
 saved-fits false kv rbp o h = absurd (omega (arith, h))
 
--- a load of what a get gives whole
-load-one : (kv rbp key : List ℕ) (id : ℕ) (f buf : List ℕ) → WellFormed f → 480 ≤ length buf → keyRecord kv rbp key id ≡ holding (zeros 480) f
-    → loadKey kv rbp key id buf ≡ holding buf f
-unfolding loadKey loadTests refuseIf
-load-one kv rbp key id f buf w h e =
-    let p : fileOf (keyRecord kv rbp key id) ≡ f = ap fileOf e ∙ take-append-seam f (drop (length f) (zeros 480)) in
-    let s : firstOf (loadTests kv rbp key id buf) ≡ ok = rw (le-leb 480 (length buf) h, p, ap (λ (g : Answer). g .status) e, is-valid f w) in
-    ap (λ (x : List ℕ). keyFileAnswer (firstOf (loadTests kv rbp key id buf)) x buf) p
-    ∙ sym (answer-done (firstOf (loadTests kv rbp key id buf)) (length f) f buf _ s refl refl)
-
 save-is-set : (kv rbp key : List ℕ) (id : ℕ) (a : KeyAttributes) (m : List ℕ) (flags : ℕ) (iv : List ℕ) → length m ≤ 444
     → saveKey kv rbp key id a m flags iv ≡ storeSet kv rbp key (keyName id) flags iv (formatKeyFile a m)
 unfolding saveKey
 save-is-set kv rbp key id a m flags iv h = rw (le-leb (length m) 444 h)
 
-done-fits : (kv rbp key : List ℕ) (id : ℕ) (a : KeyAttributes) (m : List ℕ) (flags : ℕ) (iv : List ℕ) → saveKey kv rbp key id a m flags iv .answer .status ≡ ok → length m ≤ 444
+done-fits : (kv rbp key : List ℕ) (id : ℕ) (a : KeyAttributes) (m : List ℕ) (flags : ℕ) (iv : List ℕ)
+    → saveKey kv rbp key id a m flags iv .answer .status ≡ ok → length m ≤ 444
 unfolding saveKey
 done-fits kv rbp key id a m flags iv h = leb-true (length m) 444 (saved-fits (leb (length m) 444) kv rbp _ h)
 
@@ -197,12 +208,17 @@ save-exact = record {
       let f = formatKeyFile a m in
       let e = save-is-set kv rbp key id a m flags iv (done-fits kv rbp key id a m flags iv h) in
       let x = set-exact kv rbp key (keyName id) flags iv f in
-      subst (Stores kv rbp key (keyName id) flags iv f) (sym e) (x .gives (x .condition .0 (sym (ap (λ (o : Outcome Areas Answer). o .answer .status) e) ∙ h)));
+      let done = sym (ap (λ (o : Outcome Areas Answer). o .answer .status) e) ∙ h in
+      subst (Stores kv rbp key (keyName id) flags iv f) (sym e) (x .gives (x .condition .0 done));
 }
 
-record-is : (kv rbp key : List ℕ) (id : ℕ) → keyRecord kv rbp key id ≡ storeGet kv rbp key (keyName id) 0 (zeros 480) .answer
+-- a load of what a get gives whole
+got-loaded : (kv rbp key : List ℕ) (id : ℕ) (f buf : List ℕ) → WellFormed f → 480 ≤ length buf
+    → storeGet kv rbp key (keyName id) 0 (zeros 480) .answer ≡ holding (zeros 480) f → loadKey kv rbp key id buf ≡ holding buf f
 unfolding keyRecord
-record-is kv rbp key id = refl
+got-loaded kv rbp key id f buf w room e =
+    let whole = ap fileOf e ∙ take-append-seam f (drop (length f) (zeros 480)) in
+    file-loaded kv rbp key id buf f room (ap (λ (g : Answer). g .status) e) whole w
 
 pub save-loads : SaveLoads
 save-loads kv rbp key id a m flags iv buf h k =
@@ -210,5 +226,6 @@ save-loads kv rbp key id a m flags iv buf h k =
     let f = formatKeyFile a m in
     let n = file-length a m in
     let e = save-is-set kv rbp key id a m flags iv l in
-    let g = round-trip kv rbp key (keyName id) flags iv f (zeros 480) (sym (ap (λ (o : Outcome Areas Answer). o .answer .status) e) ∙ h) (omega arith) in
-    rw e (load-one _ _ key id f buf (written-formed a m l) k (record-is _ _ key id ∙ ap (λ (o : Outcome Areas Answer). o .answer) g))
+    let done = sym (ap (λ (o : Outcome Areas Answer). o .answer .status) e) ∙ h in
+    let g = round-trip kv rbp key (keyName id) flags iv f (zeros 480) done (omega arith) in
+    rw e (got-loaded _ _ key id f buf (written-formed a m l) k (ap (λ (o : Outcome Areas Answer). o .answer) g))

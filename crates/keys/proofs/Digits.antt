@@ -9,7 +9,7 @@ use lib.Dec.{leb}
 use lib.ListN.{length, take, drop, set, length-set}
 use lib.Seq.{take-all, drop-cons, getD-set-same, drop-set-lt}
 use Rattle.spec.specs.Name.{hexDigit, hexDigits, keyName}
-use Rattle.spec.proofs.Split.{split}
+use Rattle.buffers.proofs.Split.{split}
 use Rattle.spec.proofs.Name.{digits-length}
 
 -- one more digit is in place, from the last to the first

@@ -1,15 +1,14 @@
 -- A file and what it says determine each other. Assumes nothing.
 use mathlib.Core.Path.{_≡_, refl, sym, ap, subst, _∙_}
-use mathlib.Core.List.{List, [], _∷_, _++_}
-use Prim.Native.Nat.{ℕ, _+_, _^_, _≤_, _<_}
+use mathlib.Core.List.{List, _++_}
+use Prim.Native.Nat.{ℕ, zero, suc, _+_, _*_, _^_, _≤_, _<_}
 use native.Mathlib.Omega.{arith}
-use lib.ListN.{length, getD, take, drop, length-drop}
-use lib.Seq.{take-at}
-use Rattle.spec.specs.Bytes.{leBytes, u32At}
+use lib.ListN.{length, take, drop, length-drop, take-append-drop}
+use Rattle.buffers.specs.Bytes.{leBytes, u32At}
 use Rattle.spec.specs.Status.{ok}
 use Rattle.spec.specs.Shapes.{AreBytes}
-use Rattle.spec.proofs.Bytes.{le-value}
-use Rattle.spec.proofs.Shapes.{front, front-drop, four-bytes}
+use Rattle.buffers.proofs.Bytes.{le-value}
+use Rattle.buffers.proofs.LittleEndian.{number-part, number-small}
 use Rattle.keys.specs.KeyFile.{mark, keyFileHeader, formatKeyFile, attributesOf, parseKeyFile}
 use Rattle.keys.specs.Laws.{Fits, WellFormed, WrittenFile, FileLayout, ParseExact, ReaderExact}
 use Rattle.keys.specs.declared.key_file.KeyAttributes.{KeyAttributes}
@@ -64,41 +63,43 @@ module _ (a : KeyAttributes) (m : List ℕ) where
 
 -- ---- an accepted file
 
+-- the numbers from a place on, one behind the other, and what stands behind them
+abbrev numbersFrom : ℕ → ℕ → List ℕ → List ℕ
+numbersFrom zero i f = drop i f
+numbersFrom (suc k) i f = leBytes 4 (u32At f i) ++ numbersFrom k (i + 4) f
+
+numbers : (k i : ℕ) (f : List ℕ) → AreBytes f → i + 4 * k ≤ length f → drop i f ≡ numbersFrom k i f
+numbers zero i f b h = refl
+numbers (suc k) i f b h =
+    number-part 4 i f b (omega arith) ∙ ap (λ (l : List ℕ). leBytes 4 (u32At f i) ++ l) (numbers k (i + 4) f b (omega arith))
+
 module _ (f : List ℕ) (b : AreBytes f) (w : WellFormed f) where
-  -- the four bytes at a place are those of the number that they stand for
-  abbrev fourAt : ℕ → List ℕ
-  fourAt k = getD f k 0 ∷ getD f (k + 1) 0 ∷ getD f (k + 2) 0 ∷ getD f (k + 3) 0 ∷ []
-
-  four : (k : ℕ) → fourAt k ≡ leBytes 4 (u32At f k)
-  four k = sym (four-bytes (getD f k 0) (getD f (k + 1) 0) (getD f (k + 2) 0) (getD f (k + 3) 0) (b k) (b (k + 1)) (b (k + 2)) (b (k + 3)))
-
-  split-at : (k : ℕ) → k ≤ length f → f ≡ front k 0 f ++ drop k f
-  split-at k h = let e : 0 + k ≡ k = omega arith in front-drop k 0 f (omega arith) ∙ ap (λ (n : ℕ). front k 0 f ++ drop n f) e
-
-  marked : front 8 0 f ≡ mark
-  marked = sym (take-at (front 8 0 f) (drop 8 f) 8 refl) ∙ ap (take 8) (sym (split-at 8 (omega (arith, w .header)))) ∙ w .marked
-
-  small : (k : ℕ) → u32At f k < 2 ^ 32
-  small k = omega (arith, b k, b (k + 1), b (k + 2), b (k + 3))
+  small : (i : ℕ) → u32At f i < 2 ^ 32
+  small i = number-small 4 i f b
 
   material-long : u32At f 32 ≡ length (drop 36 f)
   material-long = omega (arith, length-drop 36 f, w .whole)
 
-  header : front 36 0 f ≡ keyFileHeader (attributesOf f) (length (drop 36 f))
-  unfolding keyFileHeader
+  header : f ≡ mark ++ numbersFrom 7 8 f
   header =
-      let version = four 8 ∙ ap (leBytes 4) (w .version-0) in
-      let size = four 32 ∙ ap (leBytes 4) material-long in
-      λ i. marked i ++ (version i ++ (four 12 i ++ (four 16 i ++ (four 20 i ++ (four 24 i ++ (four 28 i ++ size i))))))
+      let size = w .header in
+      sym (take-append-drop 8 f) ∙ λ i. w .marked i ++ numbers 7 8 f b (omega arith) i
+
+  -- the version and the material's length are the two numbers that a file is told apart by
+  formed : f ≡ formatKeyFile (attributesOf f) (drop 36 f)
+  unfolding formatKeyFile keyFileHeader
+  formed =
+      header
+      ∙ λ i. mark ++ (leBytes 4 (w .version-0 i) ++ (leBytes 4 (u32At f 12) ++ (leBytes 4 (u32At f 16) ++ (leBytes 4 (u32At f 20)
+      ++ (leBytes 4 (u32At f 24) ++ (leBytes 4 (u32At f 28) ++ (leBytes 4 (material-long i) ++ drop 36 f)))))))
 
   formed-written : WrittenFile f
-  unfolding formatKeyFile
   formed-written = record {
     attributes = attributesOf f;
     material = drop 36 f;
-    fits = record { lifetime = small _; key-type = small _; usage = small _; alg = small _; enrollment-alg = small _ };
+    fits = record { lifetime = small 12; key-type = small 16; usage = small 20; alg = small 24; enrollment-alg = small 28 };
     short = omega (arith, material-long, w .material-short);
-    bytes = split-at 36 (w .header) ∙ ap (λ (h : List ℕ). h ++ drop 36 f) header;
+    bytes = formed;
   }
 
 formed-accepted : (f : List ℕ) → WellFormed f → parseKeyFile f .status ≡ ok

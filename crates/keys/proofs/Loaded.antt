@@ -3,30 +3,26 @@ use mathlib.Core.Path.{_≡_, sym, ap, _∙_}
 use mathlib.Core.Logic.{_≢_}
 use mathlib.Core.Bool.{true, false}
 use mathlib.Core.List.{List, _++_}
-use Prim.Native.Nat.{ℕ, _+_, _-_, _≤_, _<_}
+use Prim.Native.Nat.{ℕ, _+_, _-_, _≤_}
 use native.Mathlib.Omega.{arith}
-use borrow.Author.Tests.{le-leb, lt-leb, ne-eqb}
-use lib.ListN.{length, getD, take, drop, length-take}
+use borrow.Author.Tests.{le-leb, ne-eqb}
+use lib.ListN.{length, getD, take, drop}
 use Rattle.spec.specs.Status.{ok, isOk, refuseIf, firstOf, Answer, onOk}
-use Rattle.spec.specs.Bytes.{zeros}
+use Rattle.buffers.specs.Bytes.{zeros, putAt}
 use Rattle.spec.specs.Name.{keyName}
 use Rattle.spec.specs.Decisions.{readCount}
 use Rattle.spec.specs.Calls.{storeGet}
-use Rattle.spec.proofs.Split.{split}
+use Rattle.buffers.proofs.Split.{split}
 use Rattle.keys.specs.KeyFile.{keyFileValid, parseKeyFile}
 use Rattle.keys.specs.Calls.{keyRecord, fileOf, loadTests}
 
 module _ (kv rbp key : List ℕ) (id : ℕ) (buf : List ℕ) where
-  pub short-buffer : length buf < 480 → 1 ≡ firstOf (loadTests kv rbp key id buf)
-  unfolding loadTests refuseIf
-  short-buffer h = rw (lt-leb 480 (length buf) h)
-
   module _ (l : 480 ≤ length buf) (g : Answer) (e : g ≡ keyRecord kv rbp key id) where
-    pub not-got : g .status ≢ ok → g .status ≡ firstOf (loadTests kv rbp key id buf)
+    pub not-got : g .status ≢ ok → firstOf (loadTests kv rbp key id buf) ≡ g .status
     unfolding loadTests refuseIf
     not-got n = rw (le-leb 480 (length buf) l, sym e, ne-eqb (g .status) ok n)
 
-    pub not-a-file : g .status ≡ ok → keyFileValid (fileOf g) ≡ false → 13 ≡ firstOf (loadTests kv rbp key id buf)
+    pub not-a-file : g .status ≡ ok → keyFileValid (fileOf g) ≡ false → firstOf (loadTests kv rbp key id buf) ≡ 13
     unfolding loadTests refuseIf
     not-a-file s v = rw (le-leb 480 (length buf) l, sym e, s, v)
 
@@ -34,9 +30,11 @@ module _ (kv rbp key : List ℕ) (id : ℕ) (buf : List ℕ) where
     unfolding loadTests refuseIf
     loads s v = rw (le-leb 480 (length buf) l, sym e, s, v)
 
-count-within : (kv rbp key name : List ℕ) (offset : ℕ) (output : List ℕ) → getD (storeGet kv rbp key name offset output .answer .numbers) 0 0 ≤ length output
+count-within : (kv rbp key name : List ℕ) (offset : ℕ) (output : List ℕ)
+    → getD (storeGet kv rbp key name offset output .answer .numbers) 0 0 ≤ length output
 unfolding storeGet onOk readCount
-count-within kv rbp key name offset output = split (isOk (storeGet kv rbp key name offset output .answer .status)) (λ e. rw e (omega arith)) (λ e. rw e (omega arith))
+count-within kv rbp key name offset output =
+    split (isOk (storeGet kv rbp key name offset output .answer .status)) (λ e. rw e (omega arith)) (λ e. rw e (omega arith))
 
 pub count-fits : (kv rbp key : List ℕ) (id : ℕ) (g : Answer) → g ≡ keyRecord kv rbp key id → getD (g .numbers) 0 0 ≤ 480
 unfolding keyRecord
@@ -55,12 +53,6 @@ file-invalid f h = split (keyFileValid f) (λ e. absurd (h (rw e))) (λ e. e)
 pub part : (n : ℕ) (l : List ℕ) → take (n - 0) (drop 0 l) ≡ take n l
 part n l = let e : n - 0 ≡ n = omega arith in rw e
 
-pub part-length : (n : ℕ) (l : List ℕ) → n ≤ length l → n ≡ length (take n l)
-part-length n l h = rw length-take (omega arith)
-
-pub part-most : (n : ℕ) (l : List ℕ) → length (take (n - 0) (drop 0 l)) ≤ n
-part-most n l = rw (part n l, length-take) (omega arith)
-
 -- a paste at the front
-pub in-front : (src file d out : List ℕ) → out ≡ take 0 d ++ (src ++ drop (0 + length src) d) → src ≡ file → out ≡ file ++ drop (length file) d
+pub in-front : (src file d out : List ℕ) → out ≡ putAt d 0 src → src ≡ file → out ≡ file ++ drop (length file) d
 in-front src file d out e h = let z : 0 + length src ≡ length file = omega (arith, ap (λ (l : List ℕ). length l) h) in e ∙ rw (z, h)

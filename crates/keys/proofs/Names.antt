@@ -10,7 +10,7 @@ use lib.Dec.{eqb, leb, ltb}
 use lib.ListN.{length, getD, List·getD-append}
 use lib.Seq.{getD-append-seam}
 use Rattle.spec.specs.Name.{hexDigit, hexDigits, keyName}
-use Rattle.spec.proofs.Split.{split, both}
+use Rattle.buffers.proofs.Split.{split, both}
 use Rattle.spec.proofs.Name.{digits-length, key-name-valid}
 use Rattle.keys.specs.Laws.{KeyNames}
 use Rattle.keys.proofs.Digits.{key-length, name-digits, no-name, high-name}

@@ -1,5 +1,6 @@
 -- Every statement of `specs/Laws`, with its proof.
-use Rattle.keys.specs.Laws.{FileLayout, ParseExact, ReaderExact, StepsExact, KeyNames, KeyCallsWell, KeyRefusals, FormatGives, LoadExact, SaveExact, SaveLoads}
+use Rattle.keys.specs.Laws.{FileLayout, ParseExact, ReaderExact, StepsExact, KeyNames}
+use Rattle.keys.specs.Laws.{KeyCallsWell, KeyRefusals, FormatGives, LoadExact, SaveExact, SaveLoads}
 use Rattle.keys.proofs.FileLaws.{file-layout, parse-exact, reader-exact}
 use Rattle.keys.proofs.Taken.{steps-exact}
 use Rattle.keys.proofs.Names.{key-names}

@@ -8,7 +8,7 @@ use mathlib.Core.List.{List, [], _∷_, _++_}
 use Prim.Native.Nat.{ℕ}
 use lib.Dec.{leb}
 use lib.ListN.{length, getD, take, drop}
-use Rattle.spec.specs.Bytes.{zeros}
+use Rattle.buffers.specs.Bytes.{zeros}
 use Rattle.spec.specs.Status.{isOk, Test, _when_, firstOf, Answer, answerOf}
 use Rattle.spec.specs.Name.{keyName}
 use Rattle.spec.specs.Interleaving.{Outcome}

@@ -6,7 +6,7 @@ use mathlib.Core.List.{List, [], _∷_, _++_}
 use Prim.Native.Nat.{ℕ, _+_}
 use lib.Dec.{eqb, leb}
 use lib.ListN.{length, take}
-use Rattle.spec.specs.Bytes.{bytesEq, leBytes, u32At}
+use Rattle.buffers.specs.Bytes.{bytesEq, leBytes, u32At}
 use Rattle.spec.specs.Status.{ok}
 use Rattle.keys.specs.declared.key_file.KeyAttributes.{KeyAttributes}
 use Rattle.keys.specs.declared.key_file.KeyFile.{KeyFile}

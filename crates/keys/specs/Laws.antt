@@ -10,7 +10,8 @@ use mathlib.Core.Bool.{true}
 use mathlib.Core.List.{List, [], _∷_, _++_}
 use Prim.Native.Nat.{ℕ, _+_, _-_, _/_, _%_, _^_, _≤_, _<_}
 use lib.ListN.{length, getD, take, drop, replicate}
-use Rattle.spec.specs.Bytes.{leBytes, u32At}
+use denote.Ref.{RefT, now}
+use Rattle.buffers.specs.Bytes.{leBytes, u32At}
 use Rattle.spec.specs.Status.{ok, Answer}
 use Rattle.spec.specs.Name.{validName, keyName}
 use Rattle.spec.specs.Calls.{Areas, areas, storeSet, storeGet}
@@ -18,7 +19,7 @@ use Rattle.spec.specs.Demand1.{Well}
 use Rattle.spec.specs.Demand2.{Readable, opened, Stores}
 use Rattle.spec.specs.Shapes.{AreBytes}
 use Rattle.keys.specs.KeyFile.{mark, formatKeyFile, parseKeyFile}
-use Rattle.keys.specs.Reader.{markAt, fieldAt, bytesAt, partAt, readHeader}
+use Rattle.keys.specs.Reader.{markAt, fieldAt, bytesAt, partAt, partPlace, readHeader}
 use Rattle.keys.specs.declared.fields.Field.{Field}
 use Rattle.keys.specs.Calls.{writeKeyFile, saveKey, loadKey}
 use Rattle.keys.specs.declared.key_file.KeyAttributes.{KeyAttributes}
@@ -71,7 +72,7 @@ pub record ParseExact : Type 0 where
   pub refusal : (f : List ℕ) → (¬ WellFormed f) → parseKeyFile f
       ≡ record { status = 13; attributes = record { lifetime = 0; «key_type» = 0; usage = 0; alg = 0; «enrollment_alg» = 0 }; «material_len» = 0 }
 
--- who reads the header one field after the other comes to place 36 exactly where there is a header, and has then read its fields
+-- who reads the header one field after the other comes to place 36 exactly where there is a header, and has then read its fields and the material
 pub record ReaderExact : Type 0 where
   pub condition : (f : List ℕ) → (readHeader f .end ≡ 36) ↔ ((36 ≤ length f) × (take 8 f ≡ mark))
   pub fields : (f : List ℕ) → readHeader f .end ≡ 36 → readHeader f
@@ -80,6 +81,8 @@ pub record ReaderExact : Type 0 where
         attributes = record { lifetime = u32At f 12; «key_type» = u32At f 16; usage = u32At f 20; alg = u32At f 24; «enrollment_alg» = u32At f 28 };
         «material_len» = u32At f 32;
         end = 36;
+        «material_status» = bytesAt f 36 (u32At f 32) .status;
+        «material_end» = bytesAt f 36 (u32At f 32) .pos;
       }
 
 -- a step that takes n bytes: done where its fact holds, with its value and the place behind them; else 13, 0, and the place as it was
@@ -93,6 +96,9 @@ pub record StepsExact : Type 0 where
   pub of-bytes : (file : List ℕ) (pos n : ℕ) → Step pos n 0 (pos + n ≤ length file) (bytesAt file pos n)
   pub part : (file : List ℕ) (pos n : ℕ) → pos + n ≤ length file → partAt file pos n ≡ take n (drop pos file)
   pub no-part : (file : List ℕ) (pos n : ℕ) → (¬ (pos + n ≤ length file)) → partAt file pos n ≡ []
+  -- it begins at its place in the lent file, and the empty one where the file begins
+  pub place : (file : RefT (List ℕ)) (pos n : ℕ) → pos + n ≤ length (now file) → partPlace file pos n ≡ (file .ptr .0, file .ptr .1 + pos)
+  pub no-place : (file : RefT (List ℕ)) (pos n : ℕ) → (¬ (pos + n ≤ length (now file))) → partPlace file pos n ≡ file .ptr
   -- the number at a place is the one whose four bytes stand there
   pub number : (before rest : List ℕ) (n : ℕ) → n < 2 ^ 32 → u32At (before ++ (leBytes 4 n ++ rest)) (length before) ≡ n
   -- the material of a file is the part behind its header

@@ -5,7 +5,8 @@ use mathlib.Core.List.{List, []}
 use Prim.Native.Nat.{ℕ, _+_, _-_}
 use lib.Dec.{leb}
 use lib.ListN.{length, take, drop}
-use Rattle.spec.specs.Bytes.{bytesEq, u32At}
+use denote.Ref.{RefT, now}
+use Rattle.buffers.specs.Bytes.{bytesEq, u32At}
 use Rattle.spec.specs.Status.{ok}
 use Rattle.keys.specs.KeyFile.{mark}
 use Rattle.keys.specs.declared.fields.Field.{Field}
@@ -40,7 +41,11 @@ bytesAt file pos n = takenAt (hasBytes file pos n) pos n 0
 unfoldable pub partAt : List ℕ → ℕ → ℕ → List ℕ
 partAt file pos n = cond (hasBytes file pos n) (take n (drop pos file)) []
 
--- the header, one field after the other: what stands in it, and the place that the reader has come to
+-- where they begin: at the place in the file's block; the empty part of a refusal stands at the file's front
+unfoldable pub partPlace : RefT (List ℕ) → ℕ → ℕ → ℕ × ℕ
+partPlace file pos n = (file .ptr .0, file .ptr .1 + cond (hasBytes (now file) pos n) pos 0)
+
+-- the header, one field after the other: what stands in it, and the place that the reader has come to; then the material, as long as it says
 unfoldable pub readHeader : List ℕ → Header
 readHeader file =
     let mark = markAt file 0 in
@@ -51,9 +56,18 @@ readHeader file =
     let alg = fieldAt file (usage .pos) in
     let enrollmentAlg = fieldAt file (alg .pos) in
     let materialLength = fieldAt file (enrollmentAlg .pos) in
+    let material = bytesAt file (materialLength .pos) (materialLength .value) in
     record {
       version = version .value;
-      attributes = record { lifetime = lifetime .value; «key_type» = keyType .value; usage = usage .value; alg = alg .value; «enrollment_alg» = enrollmentAlg .value };
+      attributes = record {
+        lifetime = lifetime .value;
+        «key_type» = keyType .value;
+        usage = usage .value;
+        alg = alg .value;
+        «enrollment_alg» = enrollmentAlg .value;
+      };
       «material_len» = materialLength .value;
       end = materialLength .pos;
+      «material_status» = material .status;
+      «material_end» = material .pos;
     }

@@ -1,10 +1,10 @@
 // One field of a key file, taken from a place in it. A place that leaves too few bytes for the field gives 13, and stays as it was.
 use crate::key_file;
-use records::numbers;
-use slots::names;
+use buffers::compare;
+use buffers::numbers;
 use store::status;
 ghost use mathlib.Core.Path.{_≡_};
-ghost use Rattle.keys.specs.Reader.{hasBytes, refusedAt, markAt, fieldAt, bytesAt, partAt};
+ghost use Rattle.keys.specs.Reader.{hasBytes, refusedAt, markAt, fieldAt, bytesAt, partAt, partPlace};
 
 pub struct Field {
     pub status: u32,
@@ -39,7 +39,7 @@ pub(crate) fn mark_at(file: &[u8], pos: usize) -> Field
         return refused(pos);
     }
     let end = pos + 8;
-    if !names::bytes_equal(&file[pos..end], &key_file::KEY_FILE_MARK) {
+    if !compare::bytes_equal(&file[pos..end], &key_file::KEY_FILE_MARK) {
         return refused(pos);
     }
     Field {
@@ -57,7 +57,7 @@ pub(crate) fn field_at(file: &[u8], pos: usize) -> Field
     }
     Field {
         status: status::OK,
-        value: numbers::u32_at(file, pos),
+        value: numbers::le_at(file, pos, 4),
         pos: pos + 4,
     }
 }
@@ -76,7 +76,7 @@ pub(crate) fn bytes_at(file: &[u8], pos: usize, n: usize) -> Field
 }
 
 pub(crate) fn part_at(file: &[u8], pos: usize, n: usize) -> &[u8]
-    ensures { λ r. ⌜ now r ≡ partAt (now (file .entry)) pos n ⌝ }
+    ensures { λ r. ⌜ (now r ≡ partAt (now (file .entry)) pos n) × (r .ptr ≡ partPlace (file .entry) pos n) ⌝ }
 {
     if !has_bytes(file, pos, n) {
         return &file[0..0];

@@ -1,8 +1,8 @@
 // Writing a key file.
 use crate::key_file;
 use crate::key_file::KeyAttributes;
-use records::numbers;
-use slots::buffers;
+use buffers::numbers;
+use buffers::parts;
 use store::answers::Got;
 use store::status;
 ghost use mathlib.Core.Path.{_≡_};
@@ -16,14 +16,14 @@ fn put_header(attributes: KeyAttributes, material_len: u32, dst: &mut [u8])
     requires { ⌜ 36 ≤ length (now dst) ⌝ }
     ensures { λ _. ⌜ now (dst .exit) ≡ keyFileHeader attributes «material_len» ++ drop 36 (now (dst .entry)) ⌝ }
 {
-    buffers::paste(dst, 0, &key_file::KEY_FILE_MARK);
-    numbers::put_u32(key_file::KEY_FILE_VERSION, dst, 8);
-    numbers::put_u32(attributes.lifetime, dst, 12);
-    numbers::put_u32(attributes.key_type, dst, 16);
-    numbers::put_u32(attributes.usage, dst, 20);
-    numbers::put_u32(attributes.alg, dst, 24);
-    numbers::put_u32(attributes.enrollment_alg, dst, 28);
-    numbers::put_u32(material_len, dst, 32);
+    parts::paste(dst, 0, &key_file::KEY_FILE_MARK);
+    numbers::put_le_at(key_file::KEY_FILE_VERSION, dst, 8, 4);
+    numbers::put_le_at(attributes.lifetime, dst, 12, 4);
+    numbers::put_le_at(attributes.key_type, dst, 16, 4);
+    numbers::put_le_at(attributes.usage, dst, 20, 4);
+    numbers::put_le_at(attributes.alg, dst, 24, 4);
+    numbers::put_le_at(attributes.enrollment_alg, dst, 28, 4);
+    numbers::put_le_at(material_len, dst, 32, 4);
 }
 
 // A file at the front of a buffer.
@@ -32,7 +32,7 @@ pub(crate) fn put_key_file(attributes: KeyAttributes, material: &[u8], dst: &mut
     ensures { λ _. ⌜ now (dst .exit) ≡ formatKeyFile attributes (now (material .entry)) ++ drop (36 + length (now (material .entry))) (now (dst .entry)) ⌝ }
 {
     put_header(attributes, material.len() as u32, dst);
-    buffers::paste(dst, key_file::KEY_FILE_HEADER, material);
+    parts::paste(dst, key_file::KEY_FILE_HEADER, material);
 }
 
 pub fn format_key_file(attributes: KeyAttributes, material: &[u8], key_buf: &mut [u8]) -> Got

@@ -1,5 +1,4 @@
 // A key file's fields, taken one after the other, and the file judged.
-use crate::fields;
 use crate::key_file;
 use crate::key_file::KeyAttributes;
 use crate::key_file::KeyFile;
@@ -9,12 +8,15 @@ ghost use mathlib.Core.Path.{_≡_};
 ghost use Rattle.keys.specs.KeyFile.{refusedFile, parseKeyFile};
 ghost use Rattle.keys.specs.Reader.{readHeader};
 
-// What the header says, and the place behind it. A field that is refused leaves the place, so that it cannot be 36.
+// What the header says, and the place behind it; then the answer to the material, and the place behind that. A field that is refused leaves the
+// place, so that the header's end cannot be 36.
 pub struct Header {
     pub version: u32,
     pub attributes: KeyAttributes,
     pub material_len: u32,
     pub end: usize,
+    pub material_status: u32,
+    pub material_end: usize,
 }
 
 // Step by step through the reader. The answer to the mark is not needed: the place tells.
@@ -30,6 +32,8 @@ fn read_header(file: &[u8]) -> Header
     let alg = reader::take_field(&mut r);
     let enrollment_alg = reader::take_field(&mut r);
     let material_len = reader::take_field(&mut r);
+    let end = r.pos;
+    let material = reader::take_material(&mut r, material_len.value as usize);
     Header {
         version: version.value,
         attributes: KeyAttributes {
@@ -40,7 +44,9 @@ fn read_header(file: &[u8]) -> Header
             enrollment_alg: enrollment_alg.value,
         },
         material_len: material_len.value,
-        end: r.pos,
+        end,
+        material_status: material.status,
+        material_end: r.pos,
     }
 }
 
@@ -71,15 +77,13 @@ pub fn parse_key_file(file: &[u8]) -> KeyFile
     if header.version != key_file::KEY_FILE_VERSION {
         return refused();
     }
-    let material_len = header.material_len as usize;
-    if key_file::MAX_KEY_MATERIAL < material_len {
+    if key_file::MAX_KEY_MATERIAL < header.material_len as usize {
         return refused();
     }
-    let material = fields::bytes_at(file, header.end, material_len);
-    if material.status != status::OK {
+    if header.material_status != status::OK {
         return refused();
     }
-    if material.pos != file.len() {
+    if header.material_end != file.len() {
         return refused();
     }
     let attributes = header.attributes;

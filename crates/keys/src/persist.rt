@@ -4,7 +4,7 @@ use crate::key_file;
 use crate::key_file::KeyAttributes;
 use crate::key_name;
 use crate::parse;
-use slots::buffers;
+use buffers::parts;
 use store::answers::Got;
 use store::get;
 use store::set;
@@ -90,7 +90,7 @@ pub fn load_persistent_key(
     if parse::parse_key_file(&file[0..count]).status != status::OK {
         return refused(status::ERR_INVALID_KEY_FILE);
     }
-    buffers::paste(key_buf, 0, &file[0..count]);
+    parts::paste(key_buf, 0, &file[0..count]);
     Got {
         status: status::OK,
         count,

@@ -2,7 +2,7 @@
 // struct, so each is thin and proved by hand; `fields` does the work.
 use crate::fields;
 ghost use mathlib.Core.Path.{_≡_};
-ghost use Rattle.keys.specs.Reader.{markAt, fieldAt, bytesAt, partAt};
+ghost use Rattle.keys.specs.Reader.{markAt, fieldAt, bytesAt, partAt, partPlace};
 
 pub struct KeyFileReader<'a> {
     pub file: &'a [u8],
@@ -21,7 +21,7 @@ pub struct Taken {
     pub value: u32,
 }
 
-// The material as part of the lent file, and the number; a refusal has the empty part.
+// The material as part of the lent file, and the number; a refusal has the empty part at the file's front.
 pub struct KeyMaterial<'a> {
     pub bytes: &'a [u8],
     pub status: u32,
@@ -51,7 +51,7 @@ pub fn take_field<'s, 'a>(r: &'s mut KeyFileReader<'a>) -> Taken
 }
 
 pub fn take_material<'s, 'a>(r: &'s mut KeyFileReader<'a>, n: usize) -> KeyMaterial<'a>
-    ensures { λ m. ⌜ (now (m .bytes) ≡ partAt (now (now (r .entry) .file)) (now (r .entry) .pos) n) × (m .status ≡ bytesAt (now (now (r .entry) .file)) (now (r .entry) .pos) n .status) × (now (r .exit) .file ≡ now (r .entry) .file) × (now (r .exit) .pos ≡ bytesAt (now (now (r .entry) .file)) (now (r .entry) .pos) n .pos) ⌝ }
+    ensures { λ m. ⌜ (now (m .bytes) ≡ partAt (now (now (r .entry) .file)) (now (r .entry) .pos) n) × (m .bytes .ptr ≡ partPlace (now (r .entry) .file) (now (r .entry) .pos) n) × (m .status ≡ bytesAt (now (now (r .entry) .file)) (now (r .entry) .pos) n .status) × (now (r .exit) .file ≡ now (r .entry) .file) × (now (r .exit) .pos ≡ bytesAt (now (now (r .entry) .file)) (now (r .entry) .pos) n .pos) ⌝ }
 {
     let bytes = fields::part_at(r.file, r.pos, n);
     let f = fields::bytes_at(r.file, r.pos, n);

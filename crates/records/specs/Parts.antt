@@ -3,9 +3,9 @@ use mathlib.Core.Bool.{Bool, cond, _&&_, _||_}
 use mathlib.Core.List.{List, _++_}
 use Prim.Native.Nat.{ℕ, _+_}
 use lib.Dec.{eqb, leb}
-use lib.ListN.{length, take, drop}
+use lib.ListN.{length}
 use Rattle.cipher.specs.Cmac.{cmac}
-use Rattle.spec.specs.Bytes.{zeros, allZero}
+use Rattle.buffers.specs.Bytes.{zeros, allZero}
 use Rattle.spec.specs.Name.{Name}
 use Rattle.spec.specs.Record.{requireConfidentiality, requireIntegrity, validFlags, maxDataSize, metadataSizeOf, revisionOf, dataSizeOf, flagsOf, ivOf, tagOf, authKey}
 
@@ -24,7 +24,3 @@ cmacOver key name covered = cmac (authKey key name) (name ++ covered)
 -- `sealedTag`, of the same
 unfoldable pub tagOver : List ℕ → Name → ℕ → List ℕ → List ℕ
 tagOver key name flags covered = cond (requireIntegrity flags) (cmacOver key name covered) (zeros 16)
-
--- a byte string with s in the place of its bytes from `at` on
-abbrev pub putAt : List ℕ → ℕ → List ℕ → List ℕ
-putAt d at s = take at d ++ (s ++ drop (at + length s) d)

@@ -1,9 +1,6 @@
 // One record: made, judged and opened, each function proved equal to its definition in spec.
-pub mod arrays;
-pub mod compare;
 pub mod flags;
 pub mod mac;
-pub mod numbers;
 pub mod open;
 pub mod record;
 pub mod seal;

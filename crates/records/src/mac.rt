@@ -1,10 +1,10 @@
 // The CMAC of a record, computed and compared.
-use crate::compare;
 use crate::record;
+use buffers::compare;
 ghost use mathlib.Core.Path.{_≡_};
 ghost use mathlib.Core.Bool.{true};
 ghost use lib.ListN.{length};
-ghost use Rattle.spec.specs.Bytes.{bytesEq};
+ghost use Rattle.buffers.specs.Bytes.{bytesEq};
 ghost use Rattle.spec.specs.Record.{tagOf, wellFormed, macOk};
 ghost use Rattle.records.specs.Parts.{cmacOver};
 

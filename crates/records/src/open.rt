@@ -1,13 +1,13 @@
 // Opening a record.
-use crate::arrays;
 use crate::record;
 use crate::seal;
+use buffers::parts;
 ghost use mathlib.Core.Path.{_≡_};
 ghost use mathlib.Core.Bool.{true};
 ghost use mathlib.Core.List.{_++_};
 ghost use Prim.Native.Nat.{_≤_};
 ghost use lib.ListN.{length, drop};
-ghost use Rattle.spec.specs.Bytes.{zeroFill};
+ghost use Rattle.buffers.specs.Bytes.{zeroFill};
 ghost use Rattle.spec.specs.Record.{dataSizeOf, wellFormed, plaintext};
 
 // A record's data at the front of a buffer, decrypted where the flags ask for confidentiality.
@@ -18,7 +18,7 @@ fn open_into(device_key: [u8; 16], name: &[u8], r: &[u8], value: &mut [u8])
 {
     let end = r.len() - 16;
     let flags = record::record_flags(r);
-    let iv = arrays::array8(&r[12..20]);
+    let iv = parts::array8(&r[12..20]);
     seal::put_crypted(device_key, name, flags, iv, &r[20..end], value, 0);
 }
 

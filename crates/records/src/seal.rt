@@ -1,26 +1,26 @@
 // Making a record.
 use crate::flags;
 use crate::mac;
-use crate::numbers;
 use crate::record;
-use slots::buffers;
+use buffers::numbers;
+use buffers::parts;
 ghost use mathlib.Core.Path.{_≡_};
 ghost use mathlib.Core.List.{_++_};
 ghost use Prim.Native.Nat.{_+_, _≤_};
 ghost use lib.ListN.{length, drop};
-ghost use Rattle.spec.specs.Bytes.{zeroFill};
+ghost use Rattle.buffers.specs.Bytes.{zeroFill, putAt};
 ghost use Rattle.spec.specs.Record.{metadata, sealedIv, sealedData, sealRecord};
-ghost use Rattle.records.specs.Parts.{putAt, tagOver};
+ghost use Rattle.records.specs.Parts.{tagOver};
 
 fn put_metadata(data_size: u32, flags: u32, iv: [u8; 8], dst: &mut [u8])
     requires { ⌜ 20 ≤ length (now dst) ⌝ }
     ensures { λ _. ⌜ now (dst .exit) ≡ metadata «data_size» flags iv ++ drop 20 (now (dst .entry)) ⌝ }
 {
-    numbers::put_u16(20, dst, 0);
-    numbers::put_u16(record::REVISION, dst, 2);
-    numbers::put_u32(data_size, dst, 4);
-    numbers::put_u32(flags, dst, 8);
-    buffers::paste(dst, 12, &iv);
+    numbers::put_le_at(20, dst, 0, 2);
+    numbers::put_le_at(record::REVISION, dst, 2, 2);
+    numbers::put_le_at(data_size, dst, 4, 4);
+    numbers::put_le_at(flags, dst, 8, 4);
+    parts::paste(dst, 12, &iv);
 }
 
 // Without confidentiality the IV is zero, whatever was lent.
@@ -98,7 +98,7 @@ fn seal_into(
     put_metadata(n as u32, flags, sealed_iv(flags, iv), record_buf);
     put_crypted(device_key, name, flags, iv, value, record_buf, 20);
     let tag = sealed_tag(device_key, name, flags, &record_buf[..covered]);
-    buffers::paste(record_buf, covered, &tag);
+    parts::paste(record_buf, covered, &tag);
 }
 
 // 01: the "working record", which starts as all zeros.

@@ -1,4 +1,3 @@
-pub mod ByteTests
 pub mod Turns
 pub mod KindLaws
 pub mod SlotBytes

@@ -11,64 +11,44 @@ use borrow.Author.Tests.{ltb-true, ltb-false, lt-ltb, le-ltb}
 use lib.Dec.{ltb}
 use lib.ListN.{length, getD, drop, getElem?, length-drop}
 use lib.Seq.{drop-cons}
-use Rattle.spec.specs.Bytes.{any, isSome}
+use Rattle.buffers.specs.Bytes.{any, isSome}
 use Rattle.spec.specs.Name.{Name}
-use Rattle.spec.specs.Slots.{firstIndex, findFirst, mapOption, isName, member, distinct, namesBy}
+use Rattle.spec.specs.Slots.{firstIndex, isName, member, distinct, namesBy}
 use Rattle.spec.specs.Area.{Format, slotFree, slotPayload, holds, slotCount, slots, lookup, hasSpace}
-use Rattle.spec.proofs.Split.{split, splitO}
-use Rattle.spec.proofs.Slots.{find-any}
-use Rattle.spec.proofs.Chunks.{length-chunks}
+use Rattle.buffers.proofs.Split.{split, splitO}
+use Rattle.spec.proofs.Slots.{member-any}
+use Rattle.spec.proofs.Chunks.{slots-length}
 use Rattle.spec.proofs.First.{any-first, find-first, first-passes}
-
-some-map : {A B : Type 0} (f : A → B) (o : Option A) → isSome (mapOption f o) ≡ isSome o
-some-map f none = refl
-some-map f (some a) = refl
+use Rattle.spec.proofs.Area.{any-of-some, any-of-none}
 
 get-in : {A : Type 0} (l : List A) (i : ℕ) (d : A) → i < length l → getElem? l i ≡ some (getD l i d)
 get-in [] i d h = absurd (not-suc-le-zero h)
 get-in (x ∷ l) zero d h = refl
 get-in (x ∷ l) (suc i) d h = get-in l i d (le-of-suc-le-suc h)
 
-get-past : {A : Type 0} (l : List A) (i : ℕ) → length l ≤ i → getElem? l i ≡ none
-get-past [] zero h = refl
-get-past [] (suc i) h = refl
-get-past (x ∷ l) zero h = absurd (not-suc-le-zero h)
-get-past (x ∷ l) (suc i) h = get-past l i (le-of-suc-le-suc h)
-
 module _ (F : Format) (l : List ℕ) where
-  pub slots-length : length (slots F l) ≡ slotCount F l
-  slots-length = length-chunks (F .slotSize) (slotCount F l) l
-
   pub space-first : hasSpace F l ≡ ltb (firstIndex slotFree (slots F l)) (slotCount F l)
   unfolding hasSpace
-  space-first = any-first slotFree (slots F l) ∙ ap (ltb (firstIndex slotFree (slots F l))) slots-length
+  space-first = any-first slotFree (slots F l) ∙ ap (ltb (firstIndex slotFree (slots F l))) (slots-length F l)
 
   module _ (n : Name) where
     pub some-first : isSome (lookup F l n) ≡ ltb (firstIndex (holds F n) (slots F l)) (slotCount F l)
-    unfolding lookup
     some-first =
-        some-map (slotPayload F) (findFirst (holds F n) (slots F l)) ∙ find-any (holds F n) (slots F l) ∙ any-first (holds F n) (slots F l)
-        ∙ ap (ltb (firstIndex (holds F n) (slots F l))) slots-length
+        splitO (lookup F l n) (λ e. rw e (sym (any-of-none F l n e))) (λ p e. rw e (sym (any-of-some F l n p e)))
+        ∙ any-first (holds F n) (slots F l) ∙ ap (ltb (firstIndex (holds F n) (slots F l))) (slots-length F l)
 
     module _ (i : ℕ) (e : i ≡ firstIndex (holds F n) (slots F l)) where
       pub lookup-here : i < slotCount F l → lookup F l n ≡ some (slotPayload F (getD (slots F l) i []))
       unfolding lookup
-      lookup-here h = rw (find-first (holds F n) (slots F l), ← e, get-in (slots F l) i [] (rw slots-length h))
-
-      pub lookup-gone : slotCount F l ≤ i → lookup F l n ≡ none
-      unfolding lookup
-      lookup-gone h = rw (find-first (holds F n) (slots F l), ← e, get-past (slots F l) i (rw slots-length h))
+      lookup-here h = rw (find-first (holds F n) (slots F l), ← e, get-in (slots F l) i [] (rw (slots-length F l) h))
 
       pub holds-here : i < slotCount F l → holds F n (getD (slots F l) i []) ≡ true
       holds-here h =
-          rw e (first-passes (holds F n) (slots F l) [] (any-first (holds F n) (slots F l) ∙ rw (← e, slots-length) (lt-ltb i (slotCount F l) h)))
+          rw e (first-passes (holds F n) (slots F l) [] (any-first (holds F n) (slots F l) ∙ rw (← e, slots-length F l) (lt-ltb i (slotCount F l) h)))
 
 -- Distinct names: one turn of the outer loop.
-member-any : {S : Type 0} (at : S → Option Name) (n : Name) (ss : List S) → member n (namesBy at ss) ≡ any (λ s. isName n (at s)) ss
-member-any at n [] = refl
-member-any at n (s ∷ ss) = splitO (at s) (λ e. simp (e, member-any at n ss)) (λ m e. simp (e, member-any at n ss))
-
-later : {S : Type 0} (t : S → Bool) (ss : List S) (b j : ℕ) → b ≤ length ss → j ≡ b + firstIndex t (drop b ss) → any t (drop b ss) ≡ ltb j (length ss)
+later : {S : Type 0} (t : S → Bool) (ss : List S) (b j : ℕ) → b ≤ length ss → j ≡ b + firstIndex t (drop b ss)
+    → any t (drop b ss) ≡ ltb j (length ss)
 later t ss b j h e =
     let d = length-drop b ss in
     any-first t (drop b ss)

@@ -1,49 +1,27 @@
 -- The bytes of a slot as they are written: cleared, then the header, the name and the payload over them.
 use mathlib.Core.Path.{_≡_, refl, ap, _∙_}
-use mathlib.Core.List.{List, [], _∷_, _++_, append-assoc, append-nil}
-use Prim.Native.Nat.{ℕ, zero, suc, _+_, _-_, _%_, _/_, _≤_}
+use mathlib.Core.List.{List, [], _∷_, _++_, append-assoc}
+use Prim.Native.Nat.{ℕ, _+_, _-_, _≤_}
 use native.Mathlib.Omega.{arith}
-use lib.ListN.{length, take, drop, set, length-take, drop-of-length-le}
-use lib.Seq.{take-length, take-at, drop-at, drop-drop, take-append-add, drop-append-add}
-use Rattle.spec.specs.Bytes.{zeros, zeroFill}
+use lib.ListN.{length, take, drop}
+use lib.Seq.{take-at, drop-at, drop-drop, take-append-add, drop-append-add}
+use Rattle.buffers.specs.Bytes.{zeros, zeroFill, leBytes, putAt}
 use Rattle.spec.specs.Area.{Format, kvFormat, rbpFormat, payloadSize, makeSlot}
+use Rattle.buffers.proofs.Bytes.{take-zeros, drop-zeros}
 use Rattle.spec.proofs.Slot.{FormatLaws}
 
--- `&l[o..o + n]`
-pub part : (o n : ℕ) (l : List ℕ) → take (o + n - o) (drop o l) ≡ take n (drop o l)
-part o n l = let e : o + n - o ≡ n = omega arith in rw e
-
-pub pasted : (at : ℕ) (dst src : List ℕ)
-    → take at dst ++ ((take (length src) src ++ drop (length src) (take (at + length src - at) (drop at dst))) ++ drop (at + length src - at) (drop at dst))
-    ≡ take at dst ++ (src ++ drop (at + length src) dst)
-pasted at dst src =
-    let e : at + length src - at ≡ length src = omega arith in
-    let z : drop (length src) (take (length src) (drop at dst)) ≡ [] =
-    drop-of-length-le (take (length src) (drop at dst)) {i = length src} (omega (arith, length-take (length src) (drop at dst))) in
-    rw (e, take-length src, z, append-nil src, drop-drop (length src) at dst)
-
 pub header-kv : (n p s : List ℕ) → 4 ≤ length s
-    → set (set (set (set s 0 1) 1 (length n)) 2 (length p % 256)) 3 (length p / 256 % 256) ≡ kvFormat .header n p ++ drop 4 s
+    → putAt (putAt s 0 (1 ∷ length n ∷ [])) 2 (leBytes 2 (length p)) ≡ kvFormat .header n p ++ drop 4 s
 header-kv n p [] h = absurd (omega arith)
 header-kv n p (a ∷ []) h = absurd (omega arith)
 header-kv n p (a ∷ b ∷ []) h = absurd (omega arith)
 header-kv n p (a ∷ b ∷ c ∷ []) h = absurd (omega arith)
 header-kv n p (a ∷ b ∷ c ∷ d ∷ s) h = refl
 
-pub header-rbp : (n p s : List ℕ) → 2 ≤ length s → set (set s 0 1) 1 (length n) ≡ rbpFormat .header n p ++ drop 2 s
+pub header-rbp : (n p s : List ℕ) → 2 ≤ length s → putAt s 0 (1 ∷ length n ∷ []) ≡ rbpFormat .header n p ++ drop 2 s
 header-rbp n p [] h = absurd (omega arith)
 header-rbp n p (a ∷ []) h = absurd (omega arith)
 header-rbp n p (a ∷ b ∷ s) h = refl
-
-take-zeros : (j k : ℕ) → j ≤ k → take j (zeros k) ≡ zeros j
-take-zeros zero k h = refl
-take-zeros (suc j) zero h = absurd (omega arith)
-take-zeros (suc j) (suc k) h = ap (λ (l : List ℕ). 0 ∷ l) (take-zeros j k (omega arith))
-
-drop-zeros : (j k : ℕ) → j ≤ k → drop j (zeros k) ≡ zeros (k - j)
-drop-zeros zero k h = let e : k - 0 ≡ k = omega arith in rw e
-drop-zeros (suc j) zero h = absurd (omega arith)
-drop-zeros (suc j) (suc k) h = let e : suc k - suc j ≡ k - j = omega arith in rw e (drop-zeros j k (omega arith))
 
 module _ (F : Format) (L : FormatLaws F) (n p : List ℕ) (hn : length n ≤ 64) (hp : length p ≤ payloadSize F) where
   -- the header over zeros, then the name
@@ -63,11 +41,11 @@ module _ (F : Format) (L : FormatLaws F) (n p : List ℕ) (hn : length n ≤ 64)
       let o = L .offsets in
       let t = L .total in
       rw (
-        drop-zeros (F .nameOffset) (F .slotSize) (omega arith),
+        drop-zeros (F .slotSize) (F .nameOffset),
         take-at (F .header n p) (zeros (F .slotSize - F .nameOffset)) (F .nameOffset) (L .header-length n p),
         ← (drop-drop (length n) (F .nameOffset) (F .header n p ++ zeros (F .slotSize - F .nameOffset))),
         drop-at (F .header n p) (zeros (F .slotSize - F .nameOffset)) (F .nameOffset) (L .header-length n p),
-        drop-zeros (length n) (F .slotSize - F .nameOffset) (omega arith),
+        drop-zeros (F .slotSize - F .nameOffset) (length n),
       )
 
   front : take (F .payloadOffset) (F .header n p ++ (n ++ zeros rest)) ≡ F .header n p ++ zeroFill 64 n
@@ -95,7 +73,7 @@ module _ (F : Format) (L : FormatLaws F) (n p : List ℕ) (hn : length n ≤ 64)
         a,
         drop-append-add (F .header n p) (n ++ zeros rest) (length n + (64 + length p - length n)),
         drop-append-add n (zeros rest) (64 + length p - length n),
-        drop-zeros (64 + length p - length n) rest (omega arith),
+        drop-zeros rest (64 + length p - length n),
         b,
       )
 

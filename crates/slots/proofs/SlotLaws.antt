@@ -1,41 +1,21 @@
 -- A slot's shape, as code tests it: in a well-shaped slot the state byte tells a free one.
 use mathlib.Core.Path.{_≡_, refl, sym, _∙_}
-use mathlib.Core.Bool.{Bool, true, false, _&&_, _||_}
-use mathlib.Core.List.{List, [], _∷_}
+use mathlib.Core.Bool.{true, false, _&&_, or-false}
+use mathlib.Core.List.{List}
 use mathlib.Core.Option.{none, some}
-use Prim.Native.Nat.{ℕ, _+_, _-_, _≤_}
+use Prim.Native.Nat.{ℕ, _+_, _-_}
 use native.Mathlib.Omega.{arith}
-use borrow.Author.Tests.{ne-eqb, leb-true}
+use borrow.Author.Tests.{ne-eqb}
 use lib.Dec.{eqb, leb}
-use lib.ListN.{length, take, drop, length-drop}
-use lib.Seq.{take-all}
-use Rattle.spec.specs.Bytes.{allZero}
+use lib.ListN.{length, take, drop}
+use Rattle.buffers.specs.Bytes.{allZero}
 use Rattle.spec.specs.Name.{validName}
-use Rattle.spec.specs.Area.{Format, stateByte, nameLength, slotFree, payloadSize, slotName, slotUsed, slotValid, slotHolder, holds}
-use Rattle.spec.proofs.Split.{split, clash, both}
-use Rattle.slots.proofs.SlotBytes.{part}
-
--- a slot with a state is not free
-pub state-not-free : (s : List ℕ) → (stateByte s ≡ 0 → ⊥) → slotFree s ≡ false
-unfolding slotFree
-state-not-free [] h = absurd (h refl)
-state-not-free (x ∷ s) h = rw (ne-eqb x 0 h)
-
-or-false : (a : Bool) → (a || false) ≡ a
-or-false true = refl
-or-false false = refl
+use Rattle.spec.specs.Area.{Format, stateByte, nameLength, slotFree, slotName, slotUsed, slotValid, slotHolder, holds}
+use Rattle.buffers.proofs.Split.{split, clash}
+use Rattle.buffers.proofs.Lists.{part, rest-part}
+use Rattle.spec.proofs.Slot.{state-not-free}
 
 module _ (F : Format) (s : List ℕ) where
-  pub used-name : slotUsed F s ≡ true → nameLength s ≤ 64
-  unfolding slotUsed
-  used-name h = leb-true (nameLength s) 64 (both (leb (nameLength s) 64) _ (both (eqb (stateByte s) 1) _ h .1) .0)
-
-  pub used-payload : slotUsed F s ≡ true → F .payloadLength s ≤ payloadSize F
-  unfolding slotUsed
-  used-payload h =
-      let a = both (leb (nameLength s) 64) _ (both (eqb (stateByte s) 1) _ h .1) .1 in
-      leb-true (F .payloadLength s) (payloadSize F) (both (leb (F .payloadLength s) (payloadSize F)) _ (both (validName (slotName F s)) _ a .1) .0)
-
   -- no state: well shaped is free
   pub valid-blank : stateByte s ≡ 0 → slotValid F s ≡ slotFree s
   unfolding slotValid slotUsed
@@ -79,7 +59,4 @@ module _ (F : Format) (s : List ℕ) where
       ≡ (eqb (stateByte s) 1 && (leb (nameLength s) 64 && (validName (take (at + nameLength s - at) (drop at s)) && (leb m (length s - payload)
       && (allZero (take (payload - (at + nameLength s)) (drop (at + nameLength s) s)) && allZero (take (length s - (payload + m)) (drop (payload + m) s)))))))
   unfolding slotUsed
-  used-tests at payload m ea ep em el =
-      let tail : take (length s - (payload + m)) (drop (payload + m) s) ≡ drop (payload + m) s =
-      take-all (length s - (payload + m)) (drop (payload + m) s) (omega (arith, length-drop (payload + m) s)) in
-      rw (part at (nameLength s) s, tail, ea, ep, em, el)
+  used-tests at payload m ea ep em el = rw (part at (nameLength s) s, rest-part s (payload + m), ea, ep, em, el)

@@ -1,20 +1,18 @@
 // An area of slots, tested and edited where it is lent.
 use crate::AreaKind;
-use crate::buffers;
-use crate::names;
 use crate::slot;
+use buffers::parts;
 ghost use mathlib.Core.Path.{_≡_};
 ghost use mathlib.Core.Bool.{true, false};
 ghost use mathlib.Core.List.{[]};
 ghost use Prim.Native.Nat.{_+_, _≤_, _<_};
-ghost use lib.ListN.{length, getD, set, drop};
-ghost use Rattle.spec.specs.Bytes.{every, isSome};
-ghost use Rattle.spec.specs.Name.{validName};
-ghost use Rattle.spec.specs.Slots.{distinct, joinSlots, firstIndex};
-ghost use Rattle.spec.specs.Area.{kvFormat, payloadSize, slotFree, slotValid, slotHolder, holds, makeSlot, slotCount, slots, sized, names, intact, lookup, hasSpace, insertSlot, eraseSlot};
-ghost use Rattle.spec.specs.Decisions.{recordOf};
-ghost use Rattle.spec.specs.Calls.{nameOr, nextMatch};
+ghost use lib.ListN.{length, getD, drop};
+ghost use Rattle.buffers.specs.Bytes.{every};
+ghost use Rattle.spec.specs.Slots.{distinct, firstIndex};
+ghost use Rattle.spec.specs.Area.{kvFormat, payloadSize, slotFree, slotUsed, slotValid, slotName, holds, slotCount, slots, sized, names, intact, hasSpace};
+ghost use Rattle.spec.specs.Calls.{nextMatch};
 ghost use Rattle.slots.specs.Kind.{formatOf};
+ghost use Rattle.slots.specs.Found.{foundIn, slotAt, CanRead, payloadAt, insertAt, eraseAt};
 
 pub fn slot_count(kind: AreaKind, area: &[u8]) -> usize
     ensures { λ r. ⌜ r ≡ slotCount (formatOf kind) (now (area .entry)) ⌝ }
@@ -126,13 +124,6 @@ pub fn area_intact(kind: AreaKind, area: &[u8]) -> bool
     names_distinct(kind, area)
 }
 
-pub fn has_name(kind: AreaKind, area: &[u8], name: &[u8]) -> bool
-    requires { ⌜ (sized (formatOf kind) (now area) ≡ true) × (intact (formatOf kind) (now area) ≡ true) ⌝ }
-    ensures { λ r. ⌜ r ≡ isSome (lookup (formatOf kind) (now (area .entry)) (now (name .entry))) ⌝ }
-{
-    first_holding(kind, area, name, 0) < slot_count(kind, area)
-}
-
 pub fn has_space(kind: AreaKind, area: &[u8]) -> bool
     requires { ⌜ (sized (formatOf kind) (now area) ≡ true) × (intact (formatOf kind) (now area) ≡ true) ⌝ }
     ensures { λ r. ⌜ r ≡ hasSpace (formatOf kind) (now (area .entry)) ⌝ }
@@ -140,60 +131,58 @@ pub fn has_space(kind: AreaKind, area: &[u8]) -> bool
     first_free(kind, area) < slot_count(kind, area)
 }
 
-// What the area holds for the name; nothing, where it does not hold it.
-pub fn payload_of<'a>(kind: AreaKind, area: &'a [u8], name: &[u8]) -> &'a [u8]
+// Where a name's slot is: its own, or, where the area does not hold the name, the one that it would take; the count of slots, where none is free.
+pub struct Found {
+    pub at: usize,
+    pub held: bool,
+}
+
+pub fn find(kind: AreaKind, area: &[u8], name: &[u8]) -> Found
     requires { ⌜ (sized (formatOf kind) (now area) ≡ true) × (intact (formatOf kind) (now area) ≡ true) ⌝ }
-    ensures { λ r. ⌜ now r ≡ recordOf (lookup (formatOf kind) (now (area .entry)) (now (name .entry))) ⌝ }
+    ensures { λ r. ⌜ r ≡ foundIn (formatOf kind) (now (area .entry)) (now (name .entry)) ⌝ }
 {
-    let i = first_holding(kind, area, name, 0);
-    if i < slot_count(kind, area) {
-        slot::slot_payload(kind, slot_at(kind, area, i))
+    let at = first_holding(kind, area, name, 0);
+    if at < slot_count(kind, area) {
+        return Found { at, held: true };
+    }
+    Found {
+        at: first_free(kind, area),
+        held: false,
+    }
+}
+
+// What the slot that was found holds for the name; nothing, where the name is not held.
+pub fn payload_at<'a>(kind: AreaKind, area: &'a [u8], found: Found) -> &'a [u8]
+    requires { ⌜ (sized (formatOf kind) (now area) ≡ true) × (CanRead (formatOf kind) (now area) found) ⌝ }
+    ensures { λ r. ⌜ now r ≡ payloadAt (formatOf kind) (now (area .entry)) found ⌝ }
+{
+    if found.held {
+        slot::slot_payload(kind, slot_at(kind, area, found.at))
     } else {
         &area[0..0]
     }
 }
 
-fn put_slot(kind: AreaKind, area: &mut [u8], i: usize, name: &[u8], payload: &[u8])
-    requires { ⌜ (sized (formatOf kind) (now area) ≡ true) × (i < slotCount (formatOf kind) (now area)) ⌝ }
+pub fn insert_at(kind: AreaKind, area: &mut [u8], found: Found, name: &[u8], payload: &[u8])
+    requires { ⌜ (sized (formatOf kind) (now area) ≡ true) × (found .at < slotCount (formatOf kind) (now area)) ⌝ }
     requires { ⌜ (length (now name) ≤ 64) × (length (now payload) ≤ payloadSize (formatOf kind)) ⌝ }
-    ensures { λ _. ⌜ now (area .exit) ≡ joinSlots (set (slots (formatOf kind) (now (area .entry))) i (makeSlot (formatOf kind) (now (name .entry)) (now (payload .entry)))) ⌝ }
+    ensures { λ _. ⌜ now (area .exit) ≡ insertAt (formatOf kind) (now (area .entry)) found (now (name .entry)) (now (payload .entry)) ⌝ }
 {
     let w = slot::slot_size(kind);
-    let at = i * w;
-    let end = at + w;
-    slot::make_slot(kind, &mut area[at..end], name, payload);
-}
-
-// 01: "A new name takes the lowest free place or entry; a known name keeps its own." With no slot for the name nothing changes.
-pub fn insert_slot(kind: AreaKind, area: &mut [u8], name: &[u8], payload: &[u8])
-    requires { ⌜ (sized (formatOf kind) (now area) ≡ true) × (intact (formatOf kind) (now area) ≡ true) ⌝ }
-    requires { ⌜ (validName (now name) ≡ true) × (length (now payload) ≤ payloadSize (formatOf kind)) ⌝ }
-    ensures { λ _. ⌜ now (area .exit) ≡ insertSlot (formatOf kind) (now (area .entry)) (now (name .entry)) (now (payload .entry)) ⌝ }
-{
-    let k = slot_count(kind, area);
-    let i = first_holding(kind, area, name, 0);
-    if i < k {
-        put_slot(kind, area, i, name, payload);
-        return;
-    }
-    let j = first_free(kind, area);
-    if j < k {
-        put_slot(kind, area, j, name, payload);
-    }
+    let start = found.at * w;
+    let end = start + w;
+    slot::make_slot(kind, &mut area[start..end], name, payload);
 }
 
 // 01: "the place is zeroed"
-pub fn erase_slot(kind: AreaKind, area: &mut [u8], name: &[u8])
-    requires { ⌜ (sized (formatOf kind) (now area) ≡ true) × (intact (formatOf kind) (now area) ≡ true) ⌝ }
-    ensures { λ _. ⌜ now (area .exit) ≡ eraseSlot (formatOf kind) (now (area .entry)) (now (name .entry)) ⌝ }
+pub fn erase_at(kind: AreaKind, area: &mut [u8], found: Found)
+    requires { ⌜ (sized (formatOf kind) (now area) ≡ true) × (found .at < slotCount (formatOf kind) (now area)) ⌝ }
+    ensures { λ _. ⌜ now (area .exit) ≡ eraseAt (formatOf kind) (now (area .entry)) found ⌝ }
 {
-    let i = first_holding(kind, area, name, 0);
-    if i < slot_count(kind, area) {
-        let w = slot::slot_size(kind);
-        let at = i * w;
-        let end = at + w;
-        buffers::clear(&mut area[at..end]);
-    }
+    let w = slot::slot_size(kind);
+    let start = found.at * w;
+    let end = start + w;
+    parts::clear(&mut area[start..end]);
 }
 
 // 01: the next slot of a "walk"
@@ -212,10 +201,10 @@ pub fn next_match(kv: &[u8], prefix: &[u8], start: usize) -> usize
     i
 }
 
-pub fn name_at<'a>(kv: &'a [u8], i: usize) -> &'a [u8]
-    requires { ⌜ (sized kvFormat (now kv) ≡ true) × (intact kvFormat (now kv) ≡ true) ⌝ }
-    requires { ⌜ (i < slotCount kvFormat (now kv)) × (slotFree (getD (slots kvFormat (now kv)) i []) ≡ false) ⌝ }
-    ensures { λ r. ⌜ now r ≡ nameOr (slotHolder kvFormat (getD (slots kvFormat (now (kv .entry))) i [])) ⌝ }
+// The name of a slot in use, whatever the rest of the area is.
+pub fn name_at<'a>(kind: AreaKind, area: &'a [u8], i: usize) -> &'a [u8]
+    requires { ⌜ (sized (formatOf kind) (now area) ≡ true) × (i < slotCount (formatOf kind) (now area)) × (slotUsed (formatOf kind) (slotAt (formatOf kind) (now area) i) ≡ true) ⌝ }
+    ensures { λ r. ⌜ now r ≡ slotName (formatOf kind) (slotAt (formatOf kind) (now (area .entry)) i) ⌝ }
 {
-    slot::slot_name(AreaKind::Kv, slot_at(AreaKind::Kv, kv, i))
+    slot::slot_name(kind, slot_at(kind, area, i))
 }

@@ -1,36 +1,7 @@
-// Tests on byte strings and on names.
+// Tests on names.
 ghost use mathlib.Core.Path.{_≡_};
-ghost use Rattle.spec.specs.Bytes.{every, allZero, bytesEq};
+ghost use Rattle.buffers.specs.Bytes.{every};
 ghost use Rattle.spec.specs.Name.{validNameByte, validName, validPrefix};
-
-// An or over all bytes with one test after it: such a loop is vectorised.
-pub fn all_zero(s: &[u8]) -> bool
-    ensures { λ r. ⌜ r ≡ allZero (now (s .entry)) ⌝ }
-{
-    let mut seen: u8 = 0;
-    let mut i = 0;
-    while i < s.len() {
-        seen = seen | s[i];
-        i += 1;
-    }
-    seen == 0
-}
-
-// Of equal lengths, all bytes are compared, wherever the first difference stands.
-pub fn bytes_equal(a: &[u8], b: &[u8]) -> bool
-    ensures { λ r. ⌜ r ≡ bytesEq (now (a .entry)) (now (b .entry)) ⌝ }
-{
-    if a.len() != b.len() {
-        return false;
-    }
-    let mut diff: u8 = 0;
-    let mut i = 0;
-    while i < a.len() {
-        diff = diff | (a[i] ^ b[i]);
-        i += 1;
-    }
-    diff == 0
-}
 
 fn valid_name_byte(b: u8) -> bool
     ensures { λ r. ⌜ r ≡ validNameByte b ⌝ }

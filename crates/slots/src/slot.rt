@@ -1,12 +1,14 @@
 // One slot: where its parts stand, whether it is well shaped, who uses it, and how it is written.
 use crate::AreaKind;
-use crate::buffers;
 use crate::names;
+use buffers::compare;
+use buffers::numbers;
+use buffers::parts;
 ghost use mathlib.Core.Path.{_≡_};
 ghost use mathlib.Core.Bool.{true};
 ghost use mathlib.Core.List.{_++_};
-ghost use Prim.Native.Nat.{_+_, _≤_};
-ghost use lib.ListN.{length, take, drop};
+ghost use Prim.Native.Nat.{_≤_};
+ghost use lib.ListN.{length, drop};
 ghost use Rattle.spec.specs.Area.{payloadSize, slotName, slotPayload, slotUsed, slotValid, holds, makeSlot};
 ghost use Rattle.spec.specs.Calls.{hasPrefix, slotHasPrefix};
 ghost use Rattle.slots.specs.Kind.{formatOf};
@@ -44,7 +46,7 @@ fn payload_len(kind: AreaKind, slot: &[u8]) -> usize
     ensures { λ r. ⌜ r ≡ formatOf kind .payloadLength (now (slot .entry)) ⌝ }
 {
     match kind {
-        AreaKind::Kv => slot[2] as usize + 256 * (slot[3] as usize),
+        AreaKind::Kv => numbers::le_at(slot, 2, 2) as usize,
         AreaKind::Rbp => 16,
     }
 }
@@ -71,20 +73,20 @@ fn slot_used(kind: AreaKind, slot: &[u8]) -> bool
     if slot.len() - payload < m {
         return false;
     }
-    if !names::all_zero(&slot[after..payload]) {
+    if !compare::all_zero(&slot[after..payload]) {
         return false;
     }
     let end = payload + m;
-    names::all_zero(&slot[end..])
+    compare::all_zero(&slot[end..])
 }
 
 // 01: "well shaped"
-pub(crate) fn slot_valid(kind: AreaKind, slot: &[u8]) -> bool
+pub fn slot_valid(kind: AreaKind, slot: &[u8]) -> bool
     requires { ⌜ length (now slot) ≡ formatOf kind .slotSize ⌝ }
     ensures { λ r. ⌜ r ≡ slotValid (formatOf kind) (now (slot .entry)) ⌝ }
 {
     if slot[0] == 0 {
-        names::all_zero(slot)
+        compare::all_zero(slot)
     } else {
         slot_used(kind, slot)
     }
@@ -117,7 +119,7 @@ pub(crate) fn slot_holds(kind: AreaKind, slot: &[u8], name: &[u8]) -> bool
     if slot[0] == 0 {
         return false;
     }
-    names::bytes_equal(name, slot_name(kind, slot))
+    compare::bytes_equal(name, slot_name(kind, slot))
 }
 
 fn has_prefix(name: &[u8], prefix: &[u8]) -> bool
@@ -127,7 +129,7 @@ fn has_prefix(name: &[u8], prefix: &[u8]) -> bool
     if name.len() < n {
         return false;
     }
-    names::bytes_equal(prefix, &name[0..n])
+    compare::bytes_equal(prefix, &name[0..n])
 }
 
 pub(crate) fn slot_has_prefix(slot: &[u8], prefix: &[u8]) -> bool
@@ -144,13 +146,10 @@ fn put_header(kind: AreaKind, slot: &mut [u8], name: &[u8], payload: &[u8])
     requires { ⌜ (length (now slot) ≡ formatOf kind .slotSize) × (length (now name) ≤ 64) × (length (now payload) ≤ 516) ⌝ }
     ensures { λ _. ⌜ now (slot .exit) ≡ formatOf kind .header (now (name .entry)) (now (payload .entry)) ++ drop (formatOf kind .nameOffset) (now (slot .entry)) ⌝ }
 {
-    slot[0] = 1;
-    slot[1] = name.len() as u8;
+    let front = [1u8, name.len() as u8];
+    parts::paste(slot, 0, &front);
     match kind {
-        AreaKind::Kv => {
-            slot[2] = (payload.len() % 256) as u8;
-            slot[3] = (payload.len() / 256 % 256) as u8;
-        }
+        AreaKind::Kv => numbers::put_le_at(payload.len() as u32, slot, 2, 2),
         AreaKind::Rbp => {}
     }
 }
@@ -160,8 +159,8 @@ pub(crate) fn make_slot(kind: AreaKind, slot: &mut [u8], name: &[u8], payload: &
     requires { ⌜ (length (now slot) ≡ formatOf kind .slotSize) × (length (now name) ≤ 64) × (length (now payload) ≤ payloadSize (formatOf kind)) ⌝ }
     ensures { λ _. ⌜ now (slot .exit) ≡ makeSlot (formatOf kind) (now (name .entry)) (now (payload .entry)) ⌝ }
 {
-    buffers::clear(slot);
+    parts::clear(slot);
     put_header(kind, slot, name, payload);
-    buffers::paste(slot, name_offset(kind), name);
-    buffers::paste(slot, payload_offset(kind), payload);
+    parts::paste(slot, name_offset(kind), name);
+    parts::paste(slot, payload_offset(kind), payload);
 }

@@ -1,22 +1,23 @@
 -- The laws of a slot area, over the laws of its format: what an edit does to its own name and to others, and when there is room.
 use mathlib.Core.Path.{_≡_, refl, sym, ap, _∙_}
-use mathlib.Core.Logic.{_≢_, _⊎_, inl, inr}
-use mathlib.Core.Bool.{Bool, true, false, _&&_}
+use mathlib.Core.Logic.{_≢_, inl, inr}
+use mathlib.Core.Bool.{Bool, true, false}
 use mathlib.Core.List.{List, List·Memᴰ}
 use mathlib.Core.Option.{Option, none, some}
 use Prim.Native.Nat.{ℕ, _*_, _≤_}
 use native.Mathlib.Nat.{mul-div-cancel}
-use borrow.Author.Tests.{eqb-true, eq-eqb}
-use lib.Dec.{eqb, leb}
+use borrow.Author.Tests.{eqb-true, eq-eqb, leb-true}
 use lib.ListN.{length}
-use Rattle.spec.specs.Bytes.{every, any, zeros}
+use Rattle.buffers.specs.Bytes.{every, any, zeros}
 use Rattle.spec.specs.Name.{Name, validName}
 use Rattle.spec.specs.Slots.{joinSlots, replaceFirst, findFirst, mapOption, distinct}
-use Rattle.spec.specs.Area.{Format, slotFree, slotName, slotPayload, slotValid, slotHolder, holds, makeSlot, slotCount, slots, sized, names, intact, slotOf, lookup, hasSpace, target, insertSlot, eraseSlot, Edit, keep, write, clear, editArea}
-use Rattle.spec.proofs.Split.{splitO, clash, clashO, both}
-use Rattle.spec.proofs.Bytes.{bytesEq-refl, bytesEq-not, length-zeros}
-use Rattle.spec.proofs.Slots.{length-replaceFirst, every-replaceFirst, find-any, one-name, not-held, find-other, find-known, find-new, find-gone, Distinct, distinct-replaceFirst, to-distinct, of-distinct, Within, within-replaceFirst, room}
-use Rattle.spec.proofs.Chunks.{wide, length-chunks, wide-chunks, length-join, chunks-join}
+use Rattle.spec.specs.Area.{Format, slotFree, slotName, slotPayload, slotValid, slotHolder, holds, makeSlot, slotCount, slots, sized}
+use Rattle.spec.specs.Area.{names, intact, slotOf, lookup, hasSpace, target, insertSlot, eraseSlot, Edit, keep, write, clear, editArea}
+use Rattle.buffers.proofs.Split.{splitO, clash, clashO, both}
+use Rattle.buffers.proofs.Bytes.{bytesEq-refl, bytesEq-not, length-zeros}
+use Rattle.spec.proofs.Slots.{length-replaceFirst, every-replaceFirst, find-any, one-name, not-held, Absent, find-other, find-known, find-new}
+use Rattle.spec.proofs.Slots.{Distinct, find-gone, NewOrOwn, distinct-replaceFirst, to-distinct, of-distinct, Within, within-replaceFirst, room}
+use Rattle.spec.proofs.Chunks.{wide, length-join, chunks-join, slots-length, slots-wide}
 use Rattle.spec.proofs.Slot.{FormatLaws, Fits, blank-free, made-length, made-holder, made-payload, made-valid}
 
 -- what an edit does to what a name has
@@ -42,36 +43,47 @@ module _ (F : Format) where
     pub size : sized F area ≡ true
     pub good : intact F area ≡ true
 
-  pub sized-length : (area : List ℕ) → sized F area ≡ true → length area ≡ slotCount F area * F .slotSize
+  pub sized-parts : (area : List ℕ) → sized F area ≡ true
+      → (length area ≡ slotCount F area * F .slotSize) × (1 ≤ slotCount F area) × (slotCount F area ≤ 64)
   unfolding sized
-  sized-length area h =
-      let k = both (eqb (length area) (slotCount F area * F .slotSize)) (leb 1 (slotCount F area) && leb (slotCount F area) 64) h in
-      eqb-true (length area) (slotCount F area * F .slotSize) (k .0)
+  sized-parts area h =
+      let a = both _ _ h in
+      let b = both _ _ (a .1) in
+      (eqb-true _ _ (a .0), leb-true _ _ (b .0), leb-true _ _ (b .1))
 
-  sound-valid : (area : List ℕ) → Sound area → every (slotValid F) (slots F area) ≡ true
-  unfolding intact
-  sound-valid area s = both (every (slotValid F) (slots F area)) (distinct (names F area)) (s .good) .0
+  pub sized-length : (area : List ℕ) → sized F area ≡ true → length area ≡ slotCount F area * F .slotSize
+  sized-length area h = sized-parts area h .0
 
-  pub sound-distinct : (area : List ℕ) → Sound area → Distinct (slotHolder F) (slots F area)
+  pub intact-valid : (area : List ℕ) → intact F area ≡ true → every (slotValid F) (slots F area) ≡ true
   unfolding intact
-  sound-distinct area s = to-distinct (slotHolder F) (slots F area) (both (every (slotValid F) (slots F area)) (distinct (names F area)) (s .good) .1)
+  intact-valid area h = both _ (distinct (names F area)) h .0
+
+  pub intact-distinct : (area : List ℕ) → intact F area ≡ true → Distinct (slotHolder F) (slots F area)
+  unfolding intact
+  intact-distinct area h = to-distinct (slotHolder F) (slots F area) (both (every (slotValid F) (slots F area)) _ h .1)
 
   -- an area of the same length has the same size
   pub sized-same : (area area′ : List ℕ) → length area′ ≡ length area → sized F area ≡ true → sized F area′ ≡ true
   unfolding sized
   sized-same area area′ e h = rw e h
 
-  -- a blank slot
-  blank-length : length (zeros (F .slotSize)) ≡ F .slotSize
+  abbrev blank : List ℕ
+  blank = zeros (F .slotSize)
+
+  blank-length : length blank ≡ F .slotSize
   blank-length = length-zeros (F .slotSize)
 
-  blank-holds : (m : Name) → holds F m (zeros (F .slotSize)) ≡ false
+  blank-holds : (m : Name) → holds F m blank ≡ false
   unfolding slotHolder
   blank-holds m = rw (blank-free (F .slotSize))
 
-  blank-valid : slotValid F (zeros (F .slotSize)) ≡ true
+  blank-valid : slotValid F blank ≡ true
   unfolding slotValid
   blank-valid = rw (blank-free (F .slotSize))
+
+  -- so whatever is asked of the names that it has is met
+  of-blank : {P : Type 0} (m : Name) → holds F m blank ≡ true → P
+  of-blank m h = clash (holds F m blank) h (blank-holds m)
 
   -- what may be written under a name
   pub record Good (n p : List ℕ) : Type 0 where
@@ -87,13 +99,19 @@ module _ (F : Format) where
   used-holder s e h = clashO (slotHolder F s) {a = slotName F s} h (rw e)
 
   -- lookup and find
-  pub find-of-none : (area : List ℕ) (n : Name) → lookup F area n ≡ none → findFirst (holds F n) (slots F area) ≡ none
+  pub find-of-none : (area : List ℕ) (n : Name) → lookup F area n ≡ none → Absent (slotHolder F) n (slots F area)
   unfolding lookup
   find-of-none area n h = splitO (findFirst (holds F n) (slots F area)) (λ e. e) (λ r e. clashO (lookup F area n) {a = slotPayload F r} h (rw e))
 
   pub find-of-some : (area : List ℕ) (n p : List ℕ) → lookup F area n ≡ some p → (s : List ℕ) × (findFirst (holds F n) (slots F area) ≡ some s)
   unfolding lookup
   find-of-some area n p h = splitO (findFirst (holds F n) (slots F area)) (λ e. clashO (lookup F area n) (rw e) h) (λ r e. (r, e))
+
+  pub any-of-some : (area n p : List ℕ) → lookup F area n ≡ some p → any (holds F n) (slots F area) ≡ true
+  any-of-some area n p h = sym (find-any (holds F n) (slots F area)) ∙ rw (find-of-some area n p h .1)
+
+  pub any-of-none : (area n : List ℕ) → lookup F area n ≡ none → any (holds F n) (slots F area) ≡ false
+  any-of-none area n h = sym (find-any (holds F n) (slots F area)) ∙ rw (find-of-none area n h)
 
   pub lookup-slot : (area : List ℕ) (n : Name) → lookup F area n ≡ mapOption (slotPayload F) (slotOf F area n)
   unfolding lookup
@@ -103,7 +121,7 @@ module _ (F : Format) where
   target-other : (area : List ℕ) (m n : Name) (s : List ℕ) → m ≢ n → target F area n s ≡ true → holds F m s ≡ false
   target-other area m n s h e = splitO (lookup F area n) (λ z. free-holds m s (rw z at e)) (λ p z. not-held (slotHolder F) m s n (rw z at e) h)
 
-  target-fits : (area : List ℕ) (n : Name) → (findFirst (holds F n) (slots F area) ≡ none) ⊎ ((s : List ℕ) → target F area n s ≡ holds F n s)
+  target-fits : (area : List ℕ) (n : Name) → NewOrOwn (slotHolder F) (target F area n) (slots F area) n
   target-fits area n = splitO (lookup F area n) (λ e. inl (find-of-none area n e)) (λ p e. inr (λ s. rw e))
 
   -- there is room for a name: it is known, or a slot is free
@@ -116,12 +134,12 @@ module _ (F : Format) where
 
   pub roomy-space : (u : List Name) (area : List ℕ) (n : Name) → Sound area → Roomy u area → List·Memᴰ n u → HasRoom area n
   unfolding hasSpace
-  roomy-space u area n s r i e = room (slotHolder F) slotFree used-holder n (slots F area) u (sound-distinct area s) (r .within) i
-      (rw (length-chunks (F .slotSize) (slotCount F area) area) (r .enough)) (find-of-none area n e)
+  roomy-space u area n s r i e = room (slotHolder F) slotFree used-holder n (slots F area) u (intact-distinct area (s .good)) (r .within) i
+      (rw (slots-length F area) (r .enough)) (find-of-none area n e)
 
   pub target-any : (area : List ℕ) (n : Name) → HasRoom area n → any (target F area n) (slots F area) ≡ true
   unfolding hasSpace
-  target-any area n h = splitO (lookup F area n) (λ e. rw e (h e)) (λ p e. rw e (sym (find-any (holds F n) (slots F area)) ∙ rw (find-of-some area n p e .1)))
+  target-any area n h = splitO (lookup F area n) (λ e. rw e (h e)) (λ p e. rw e (any-of-some area n p e))
 
   abbrev pub GoodEdit : Name → Edit → Type 0
   GoodEdit n keep = Unit {0}
@@ -134,23 +152,32 @@ module _ (F : Format) (L : FormatLaws F) where
 
   -- one slot replaced by q, in a sound area
   module _ (area : List ℕ) (t : List ℕ → Bool) (q : List ℕ) (s : Sound F area) (z : length q ≡ F .slotSize) where
-    replaced-wide : every (wide (F .slotSize)) (replaceFirst t q (slots F area)) ≡ true
+    abbrev replaced : List (List ℕ)
+    replaced = replaceFirst t q (slots F area)
+
+    replaced-wide : every (wide (F .slotSize)) replaced ≡ true
     replaced-wide = every-replaceFirst (wide (F .slotSize)) t q (slots F area) (eq-eqb (length q) (F .slotSize) z)
-        (wide-chunks (F .slotSize) (slotCount F area) area (sized-length F area (s .size)))
+        (slots-wide F area (sized-length F area (s .size)))
 
-    pub slots-replaced : slots F (joinSlots (replaceFirst t q (slots F area))) ≡ replaceFirst t q (slots F area)
-    slots-replaced = slots-join (replaceFirst t q (slots F area)) replaced-wide
+    slots-replaced : slots F (joinSlots replaced) ≡ replaced
+    slots-replaced = slots-join replaced replaced-wide
 
-    pub replaced-length : length (joinSlots (replaceFirst t q (slots F area))) ≡ length area
-    replaced-length = rw (length-join (F .slotSize) (replaceFirst t q (slots F area)) replaced-wide, length-replaceFirst t q (slots F area), length-chunks (F .slotSize) (slotCount F area) area) (sym (sized-length F area (s .size)))
+    replaced-length : length (joinSlots replaced) ≡ length area
+    replaced-length = rw (length-join (F .slotSize) replaced replaced-wide, length-replaceFirst t q (slots F area), slots-length F area)
+        (sym (sized-length F area (s .size)))
 
-    replaced-sound : slotValid F q ≡ true → ((m : Name) → holds F m q ≡ true → (findFirst (holds F m) (slots F area) ≡ none) ⊎ ((x : List ℕ) → t x ≡ holds F m x))
-        → Sound F (joinSlots (replaceFirst t q (slots F area)))
+    replaced-sound : slotValid F q ≡ true → ((m : Name) → holds F m q ≡ true → NewOrOwn (slotHolder F) t (slots F area) m) → Sound F (joinSlots replaced)
     unfolding intact
-    replaced-sound hq h = record {
-      size = sized-same F area (joinSlots (replaceFirst t q (slots F area))) replaced-length (s .size);
-      good = rw (slots-replaced, every-replaceFirst (slotValid F) t q (slots F area) hq (sound-valid F area s), of-distinct (slotHolder F) _ (distinct-replaceFirst (slotHolder F) t q (slots F area) (sound-distinct F area s) h));
-    }
+    replaced-sound hq h =
+        let valid = every-replaceFirst (slotValid F) t q (slots F area) hq (intact-valid F area (s .good)) in
+        let once = distinct-replaceFirst (slotHolder F) t q (slots F area) (intact-distinct F area (s .good)) h in
+        record {
+          size = sized-same F area (joinSlots replaced) replaced-length (s .size);
+          good = rw (slots-replaced, valid, of-distinct (slotHolder F) replaced once);
+        }
+
+  made-size : (n p : List ℕ) → Good F n p → length (makeSlot F n p) ≡ F .slotSize
+  made-size n p g = made-length F L n p (g .name) (g .payload)
 
   made-holds : (n p : List ℕ) → Good F n p → holds F n (makeSlot F n p) ≡ true
   made-holds n p g = rw (made-holder F L n p (g .name) (g .payload)) (bytesEq-refl n)
@@ -163,16 +190,16 @@ module _ (F : Format) (L : FormatLaws F) where
   module _ (area n p : List ℕ) (s : Sound F area) (g : Good F n p) where
     pub insert-length : length (insertSlot F area n p) ≡ length area
     unfolding insertSlot
-    insert-length = replaced-length area _ (makeSlot F n p) s (made-length F L n p (g .name) (g .payload))
+    insert-length = replaced-length area _ (makeSlot F n p) s (made-size n p g)
 
     pub insert-sound : Sound F (insertSlot F area n p)
     unfolding insertSlot
-    insert-sound = replaced-sound area (target F area n) (makeSlot F n p) s (made-length F L n p (g .name) (g .payload)) (made-valid F L n p (g .name) (g .payload))
+    insert-sound = replaced-sound area (target F area n) (makeSlot F n p) s (made-size n p g) (made-valid F L n p (g .name) (g .payload))
         (λ m h. rw (one-name (slotHolder F) m n (makeSlot F n p) h (made-holds n p g)) (target-fits F area n))
 
     insert-slots : slots F (insertSlot F area n p) ≡ replaceFirst (target F area n) (makeSlot F n p) (slots F area)
     unfolding insertSlot
-    insert-slots = slots-replaced area (target F area n) (makeSlot F n p) s (made-length F L n p (g .name) (g .payload))
+    insert-slots = slots-replaced area (target F area n) (makeSlot F n p) s (made-size n p g)
 
     -- the slot that a name uses after it
     pub slot-insert : HasRoom F area n → slotOf F (insertSlot F area n p) n ≡ some (makeSlot F n p)
@@ -193,22 +220,22 @@ module _ (F : Format) (L : FormatLaws F) where
   module _ (area n : List ℕ) (s : Sound F area) where
     pub erase-length : length (eraseSlot F area n) ≡ length area
     unfolding eraseSlot
-    erase-length = replaced-length area _ (zeros (F .slotSize)) s (blank-length F)
+    erase-length = replaced-length area _ (blank F) s (blank-length F)
 
     pub erase-sound : Sound F (eraseSlot F area n)
     unfolding eraseSlot
-    erase-sound = replaced-sound area _ (zeros (F .slotSize)) s (blank-length F) (blank-valid F) (λ m h. clash (holds F m (zeros (F .slotSize))) h (blank-holds F m))
+    erase-sound = replaced-sound area _ (blank F) s (blank-length F) (blank-valid F) (λ m h. of-blank F m h)
 
-    erase-slots : slots F (eraseSlot F area n) ≡ replaceFirst (holds F n) (zeros (F .slotSize)) (slots F area)
+    erase-slots : slots F (eraseSlot F area n) ≡ replaceFirst (holds F n) (blank F) (slots F area)
     unfolding eraseSlot
-    erase-slots = slots-replaced area (holds F n) (zeros (F .slotSize)) s (blank-length F)
+    erase-slots = slots-replaced area (holds F n) (blank F) s (blank-length F)
 
     pub slot-erase : slotOf F (eraseSlot F area n) n ≡ none
-    slot-erase = rw erase-slots (find-gone (slotHolder F) n (zeros (F .slotSize)) (slots F area) (sound-distinct F area s) (blank-holds F n))
+    slot-erase = rw erase-slots (find-gone (slotHolder F) n (blank F) (slots F area) (intact-distinct F area (s .good)) (blank-holds F n))
 
     pub slot-erase-other : (m : Name) → m ≢ n → slotOf F (eraseSlot F area n) m ≡ slotOf F area m
     slot-erase-other m h = rw erase-slots
-        (find-other (slotHolder F) m (holds F n) (zeros (F .slotSize)) (slots F area) (blank-holds F m) (λ x e. not-held (slotHolder F) m x n e h))
+        (find-other (slotHolder F) m (holds F n) (blank F) (slots F area) (blank-holds F m) (λ x e. not-held (slotHolder F) m x n e h))
 
     pub lookup-erase : lookup F (eraseSlot F area n) n ≡ none
     lookup-erase = lookup-slot F (eraseSlot F area n) n ∙ rw slot-erase
@@ -246,9 +273,9 @@ module _ (F : Format) (L : FormatLaws F) where
       → Roomy F u (editArea F area n x)
   unfolding insertSlot eraseSlot
   edit-roomy u area n keep s g r i = r
-  edit-roomy u area n (write p) s g r i = roomy-replaced u area _ (makeSlot F n p) s (made-length F L n p (g .name) (g .payload)) r
+  edit-roomy u area n (write p) s g r i = roomy-replaced u area _ (makeSlot F n p) s (made-size n p g) r
       (λ m h. rw (one-name (slotHolder F) m n (makeSlot F n p) h (made-holds n p g)) i)
-  edit-roomy u area n clear s g r i = roomy-replaced u area _ (zeros (F .slotSize)) s (blank-length F) r (λ m h. clash (holds F m (zeros (F .slotSize))) h (blank-holds F m))
+  edit-roomy u area n clear s g r i = roomy-replaced u area _ (blank F) s (blank-length F) r (λ m h. of-blank F m h)
 
   pub lookup-edit : (area n : List ℕ) (x : Edit) → Sound F area → GoodEdit F n x → WhenWritten x (HasRoom F area n)
       → lookup F (editArea F area n x) n ≡ editOption x (lookup F area n)

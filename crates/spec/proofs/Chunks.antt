@@ -9,9 +9,10 @@ use borrow.Author.Tests.{eqb-true, eq-eqb}
 use lib.Dec.{eqb}
 use lib.ListN.{length, take, drop, getD, set, length-append, length-drop, take-append-drop}
 use lib.Seq.{take-at, drop-at, drop-drop, length-take-le, take-add}
-use Rattle.spec.specs.Bytes.{every}
+use Rattle.buffers.specs.Bytes.{every}
 use Rattle.spec.specs.Slots.{chunks, joinSlots}
-use Rattle.spec.proofs.Split.{both}
+use Rattle.spec.specs.Area.{Format, slotCount, slots}
+use Rattle.buffers.proofs.Split.{both}
 
 -- a slot is w bytes wide
 abbrev pub wide : ℕ → List ℕ → Bool
@@ -65,3 +66,20 @@ join-set w (suc k) (suc i) l q h j =
     let a : suc i * w ≡ w + i * w = suc-mul i w ∙ omega arith in
     let b : w + i * w + w ≡ w + (i * w + w) = omega arith in
     rw (join-set w k i (drop w l) q (length-drop w l ∙ omega arith) (le-of-suc-le-suc j), a, b, take-add, drop-drop) (simp append-assoc)
+
+-- ---- the slots of an area
+
+module _ (F : Format) (area : List ℕ) where
+  pub slots-length : length (slots F area) ≡ slotCount F area
+  slots-length = length-chunks (F .slotSize) (slotCount F area) area
+
+  pub slot-at : (i : ℕ) → i < slotCount F area → getD (slots F area) i [] ≡ take (F .slotSize) (drop (i * F .slotSize) area)
+  slot-at i h = chunk-at (F .slotSize) (slotCount F area) i area h
+
+  -- in an area of right length
+  module _ (h : length area ≡ slotCount F area * F .slotSize) where
+    pub slots-wide : every (wide (F .slotSize)) (slots F area) ≡ true
+    slots-wide = wide-chunks (F .slotSize) (slotCount F area) area h
+
+    pub slots-joined : joinSlots (slots F area) ≡ area
+    slots-joined = join-chunks (F .slotSize) (slotCount F area) area h

@@ -8,14 +8,14 @@ use native.Mathlib.Omega.{arith}
 use borrow.Author.Tests.{eqb-true, eq-eqb, leb-true, le-leb}
 use lib.Dec.{eqb}
 use lib.ListN.{length}
-use Rattle.spec.specs.Bytes.{isSome}
+use Rattle.buffers.specs.Bytes.{isSome}
 use Rattle.spec.specs.Name.{Name, validName}
 use Rattle.spec.specs.Record.{writeOnce, validFlags, maxDataSize, flagsOf, tagOf, wellFormed, sealRecord, Sealable}
 use Rattle.spec.specs.Area.{kvFormat, rbpFormat}
 use Rattle.spec.specs.Request.{Binding, Room}
 use Rattle.spec.specs.Decisions.{recordOf, spaceTests, setHeld, setTests}
 use Rattle.spec.specs.Demand2.{Replaceable}
-use Rattle.spec.proofs.Split.{split, splitO, clash, neither, not-false-is}
+use Rattle.buffers.proofs.Split.{split, splitO, clash, neither, not-false-is}
 use Rattle.spec.proofs.Slot.{kv-fits, rbp-fits}
 use Rattle.spec.proofs.Area.{Good}
 use Rattle.spec.proofs.Record.{sealed-length, sealed-tag-length}

@@ -4,12 +4,13 @@ use mathlib.Core.Bool.{true}
 use mathlib.Core.List.{List, [], _∷_, map}
 use Prim.Native.Nat.{ℕ}
 use lib.ListN.{length}
-use Rattle.spec.specs.Bytes.{every, zeros}
+use Rattle.buffers.specs.Bytes.{every, zeros}
 use Rattle.spec.specs.Status.{isListed, firstOf, answerOf, onOk}
 use Rattle.spec.specs.Record.{requireReplayProtection}
 use Rattle.spec.specs.Request.{Request, found, statusOf, run}
 use Rattle.spec.specs.Decisions.{setHeld, getHeld, removeHeld, setRequest, getRequest, getInfoRequest, removeRequest}
-use Rattle.spec.specs.Calls.{Areas, areas, areaLengths, storeWorld, storeSet, storeGet, storeGetInfo, storeRemove, storeReset, iteratorTests, storeIteratorNext}
+use Rattle.spec.specs.Calls.{Areas, areas, areaLengths, storeWorld, storeSet, storeGet, storeGetInfo}
+use Rattle.spec.specs.Calls.{storeRemove, storeReset, iteratorTests, storeIteratorNext}
 use Rattle.spec.specs.Demand1.{Well, Demand1}
 use Rattle.spec.proofs.Status.{number, first-listed, on-refused}
 use Rattle.spec.proofs.World.{order}

@@ -10,9 +10,12 @@ use Rattle.spec.specs.Calls.{storeSet, storeGet}
 use Rattle.spec.specs.Edges.{Edges, Numerals}
 
 pub edges-hold : Edges
-unfolding salt refuseIf onOk validNameByte validName keyName validFlags metadata wellFormed sealedIv sealedData sealedTag sealRecord macOk plaintext slotFree slotUsed slotValid slotHolder makeSlot sized intact lookup hasSpace insertSlot setHeld setEffect getHeld readCount readOutput storeSet storeGet
+unfolding salt refuseIf onOk validNameByte validName keyName validFlags metadata wellFormed sealedIv sealedData sealedTag sealRecord macOk plaintext
+    slotFree slotUsed slotValid slotHolder makeSlot sized intact lookup hasSpace insertSlot
+    setHeld setEffect getHeld readCount readOutput storeSet storeGet
 edges-hold = refl
 
 pub numerals-hold : Numerals
-unfolding refuseIf onOk validNameByte validName validFlags metadata sealedIv sealedData sealedTag sealRecord slotFree slotUsed slotValid slotHolder makeSlot sized intact lookup hasSpace insertSlot setHeld setEffect storeSet
+unfolding refuseIf onOk validNameByte validName validFlags metadata sealedIv sealedData sealedTag sealRecord
+    slotFree slotUsed slotValid slotHolder makeSlot sized intact lookup hasSpace insertSlot setHeld setEffect storeSet
 numerals-hold = record { place = refl; entry = refl }

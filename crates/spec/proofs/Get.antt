@@ -9,7 +9,7 @@ use lib.Dec.{leb}
 use lib.ListN.{length}
 use Rattle.cipher.specs.Cmac.{cmac}
 use Rattle.cipher.specs.Kdf.{derivedKey, authPrefix}
-use Rattle.spec.specs.Bytes.{isSome}
+use Rattle.buffers.specs.Bytes.{isSome}
 use Rattle.spec.specs.Status.{ok, Test, _when_}
 use Rattle.spec.specs.Name.{validName}
 use Rattle.spec.specs.Record.{requireIntegrity, requireReplayProtection, dataSizeOf, flagsOf, metadataOf, storedDataOf, tagOf, wellFormed}
@@ -19,8 +19,8 @@ use Rattle.spec.specs.Request.{Binding, statusOf}
 use Rattle.spec.specs.Decisions.{keySized, tagMatches, getHeld, getTests, getRequest, getInfoRequest, readCount, readOutput}
 use Rattle.spec.specs.Calls.{areas, bindingOf, storeWorld, storeGet, storeGetInfo}
 use Rattle.spec.specs.Demand2.{Readable, reads, GetExact, InfoExact}
-use Rattle.spec.proofs.Split.{splitO, clash, not-false-is}
-use Rattle.spec.proofs.Bytes.{bytesEq-eq, eq-bytesEq}
+use Rattle.buffers.proofs.Split.{splitO, clash, not-false-is}
+use Rattle.buffers.proofs.Bytes.{bytesEq-eq, eq-bytesEq}
 use Rattle.spec.proofs.Status.{Passed}
 use Rattle.spec.proofs.World.{run-done, accepted, acceptable}
 use Rattle.spec.proofs.Decision.{flagged, unflagged}

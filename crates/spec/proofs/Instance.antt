@@ -4,7 +4,7 @@ use mathlib.Core.Bool.{true, not}
 use mathlib.Core.List.{List, _∷_, map, flatten, List·Memᴰ, List·Memᴰ·head, List·Memᴰ·tail}
 use lib.ListN.{replicate}
 use native.Mathlib.Omega.{arith}
-use Rattle.spec.specs.Bytes.{every}
+use Rattle.buffers.specs.Bytes.{every}
 use Rattle.spec.specs.Status.{refuseIf, onOk}
 use Rattle.spec.specs.Name.{Name, validNameByte, validName}
 use Rattle.spec.specs.Record.{validFlags, metadata, wellFormed, sealedIv, sealedData, sealedTag, sealRecord, plaintext}
@@ -14,8 +14,8 @@ use Rattle.spec.specs.Decisions.{setHeld, setEffect, getHeld, readCount,
 use Rattle.spec.specs.Interleaving.{lefts, rights}
 use Rattle.spec.specs.Model.{callName}
 use Rattle.spec.specs.Demand3.{IsolationPremise, Isolated, calls, Instance}
-use Rattle.spec.proofs.Split.{clash, both, not-true-is}
-use Rattle.spec.proofs.Bytes.{in-member}
+use Rattle.buffers.proofs.Split.{clash, both, not-true-is}
+use Rattle.spec.proofs.NameLists.{in-member}
 use Rattle.spec.proofs.Isolation.{client-isolation}
 
 -- lists without a common name, by a test
@@ -38,5 +38,6 @@ isolated = client-isolation _ _ (lefts calls) (rights calls) calls (record { lef
 
 -- what the model answers to each client alone
 pub instance : Instance
-unfolding refuseIf onOk slotFree slotHolder validName validNameByte validFlags setHeld setEffect sealRecord metadata sealedIv sealedData sealedTag getHeld wellFormed readCount readOutput plaintext removeHeld
+unfolding refuseIf onOk slotFree slotHolder validName validNameByte validFlags setHeld setEffect sealRecord metadata sealedIv sealedData sealedTag
+    getHeld wellFormed readCount readOutput plaintext removeHeld
 instance = record { premise = premise; left-replies = isolated .left-answers; right-replies = isolated .right-answers }

@@ -3,7 +3,7 @@ use mathlib.Core.Path.{_≡_, refl, sym}
 use mathlib.Core.Bool.{Bool, true, false}
 use mathlib.Core.List.{List, [], _∷_, List·Memᴰ, List·Memᴰ·head, List·Memᴰ·tail}
 use Rattle.spec.specs.Interleaving.{Side, left, right, isSide, Tagged, by, part, Outcome, answers, final, sharedStep}
-use Rattle.spec.proofs.Split.{split}
+use Rattle.buffers.proofs.Split.{split}
 
 -- What is asked of one call, for the clients of the test `mine` to see only their own. `step` is a call on the shared state, `own` a call of theirs on
 -- a state that is theirs alone. Agree s m: of what is theirs, s has what m has. Ok is kept by every call that is Allowed.
@@ -41,10 +41,13 @@ side-other left h = sym h
 side-other right h = refl
 
 module _ {State Own Call Answer : Type 0} (step : State → Call → Outcome State Answer) (own : Own → Call → Outcome Own Answer)
-    (mine : Side → Bool) (Ok : State → Type 0) (Allowed : Side → Call → Type 0) (Agree : State → Own → Type 0) (laws : Separate step own mine Ok Allowed Agree) where
+    (mine : Side → Bool) (Ok : State → Type 0) (Allowed : Side → Call → Type 0) (Agree : State → Own → Type 0)
+    (laws : Separate step own mine Ok Allowed Agree) where
   -- What is answered to them in an interleaving, and what is theirs at its end, are those of their calls alone on their own state.
   pub alone : (s : State) (m : Own) (l : List (Tagged Call)) → Each Allowed l → Ok s → Agree s m
-      → (part mine (answers (sharedStep step) s l) ≡ answers own m (part mine l)) × Agree (final (sharedStep step) s l) (final own m (part mine l)) × Ok (final (sharedStep step) s l)
+      → (part mine (answers (sharedStep step) s l) ≡ answers own m (part mine l))
+      × Agree (final (sharedStep step) s l) (final own m (part mine l))
+      × Ok (final (sharedStep step) s l)
   alone s m [] a o g = (refl, g, o)
   alone s m (by d c ∷ l) a o g =
       let o′ = laws .keeps d s c (a .0) o in

@@ -11,17 +11,18 @@ use Rattle.spec.specs.Name.{Name}
 use Rattle.spec.specs.Slots.{dedup}
 use Rattle.spec.specs.Area.{Format, kvFormat, rbpFormat, slotHolder, slotCount, slots, names}
 use Rattle.spec.specs.Request.{Binding, Effect, Request, found, statusOf}
-use Rattle.spec.specs.Calls.{Areas, areas, areaLengths, areaDamage, bindingOf, roomOf, storeWorld}
+use Rattle.spec.specs.Calls.{Areas, areas, bindingOf, roomOf, storeWorld}
 use Rattle.spec.specs.Interleaving.{Side, left, right, isSide, Tagged, by, part, Interleaving, answers, final, sharedStep}
 use Rattle.spec.specs.Model.{Call, requestOf, callName, modelOf, modelBinding, modelWorld, modelStep, storeStep}
 use Rattle.spec.specs.Demand3.{Names, namesWhere, isSet, isProtectedSet, IsolationPremise, Isolated, ClientIsolation, atEnd}
-use Rattle.spec.proofs.Split.{split, clash}
-use Rattle.spec.proofs.Bytes.{dedup-in}
+use Rattle.buffers.proofs.Split.{split, clash}
+use Rattle.spec.proofs.NameLists.{dedup-in}
 use Rattle.spec.proofs.Slots.{find-in}
 use Rattle.spec.proofs.Slot.{kv-laws, rbp-laws}
-use Rattle.spec.proofs.Area.{Sound, GoodEdit, WhenWritten, when-map, HasRoom, Roomy, roomy-space, edit-sound, edit-length, edit-roomy, lookup-edit, lookup-edit-other}
-use Rattle.spec.proofs.Status.{past, under}
-use Rattle.spec.proofs.World.{Sane, lengths-passed, damage-passed, accepted}
+use Rattle.spec.proofs.Area.{Sound, GoodEdit, WhenWritten, when-map, HasRoom, Roomy, roomy-space}
+use Rattle.spec.proofs.Area.{edit-sound, edit-length, edit-roomy, lookup-edit, lookup-edit-other}
+use Rattle.spec.proofs.Status.{under}
+use Rattle.spec.proofs.World.{kv-sound-of, rbp-sound-of, both-sound, Sane, accepted, own-tests}
 use Rattle.spec.proofs.Interleaving.{each-in, part-in, part-none, side-other, alone}
 use Rattle.spec.proofs.Model.{table-same, table-other, model-start}
 use Rattle.spec.proofs.Worlds.{Agreeing, edited, separate}
@@ -30,7 +31,8 @@ use Rattle.spec.proofs.Lawful.{Lawful, lawful, enough}
 pub binding-eq : {o t : Option (List ℕ)} {b : Binding} → o ≡ b .stored → t ≡ b .tag → record { stored = o; tag = t } ≡ b
 binding-eq p q = λ i. record { stored = p i; tag = q i }
 
-start-roomy : (F : Format) (u : List Name) (area : List ℕ) → ((n : Name) → List·Memᴰ n (names F area) → List·Memᴰ n u) → length u ≤ slotCount F area → Roomy F u area
+start-roomy : (F : Format) (u : List Name) (area : List ℕ) → ((n : Name) → List·Memᴰ n (names F area) → List·Memᴰ n u) → length u ≤ slotCount F area
+    → Roomy F u area
 start-roomy F u area w e = record { within = λ m r k. w m (find-in (slotHolder F) m (slots F area) r k); enough = e }
 
 -- ---- an accepted request, in the store
@@ -60,8 +62,8 @@ module _ (s : Areas) (q : Request) (L : Lawful q) where
       let n = L .needs b (roomOf (s .kv) (s .rbp)) (a .rest) in
       record {
         undamaged = u;
-        kv-sound = record { size = u .kv-sized; good = u .kv-intact };
-        rbp-sound = record { size = u .rbp-sized; good = u .rbp-intact };
+        kv-sound = kv-sound-of u;
+        rbp-sound = rbp-sound-of u;
         kv-good = g .0;
         rbp-good = g .1;
         kv-needs = n .0;
@@ -119,12 +121,11 @@ module _ (u v : List Name) (kvSize rbpSize : ℕ) (mine : Side → Bool) (Mine :
     -- the areas are sound and there is room, so the status is decided by what the name has alone
     status-is : statusOf storeWorld s q ≡ firstOf (q .early ++ q .tests (found storeWorld s q) enough)
     status-is =
-        let sane : Sane s = record { kv-sized = o .kv-sound .size; rbp-sized = o .rbp-sound .size; kv-intact = o .kv-sound .good; rbp-intact = o .rbp-sound .good } in
+        let sane : Sane s = both-sound (o .kv-sound) (o .rbp-sound) in
         let b = found storeWorld s q in
         let tests = q .tests b (roomOf (s .kv) (s .rbp)) in
-        past (areaLengths s) (q .early ++ (areaDamage s ++ tests)) (lengths-passed s sane)
-        ∙ under (q .early) (areaDamage s ++ tests) (q .tests b enough)
-        (past (areaDamage s) tests (damage-passed s sane) ∙ lawful c .roomless b (roomOf (s .kv) (s .rbp))
+        own-tests s (q .early) tests sane
+        ∙ under (q .early) tests (q .tests b enough) (lawful c .roomless b (roomOf (s .kv) (s .rbp))
         (λ i. roomy-space kvFormat u (s .kv) (callName c) (o .kv-sound) (o .kv-roomy) (a .kv-listed i))
         (λ i. roomy-space rbpFormat v (s .rbp) (callName c) (o .rbp-sound) (o .rbp-roomy) (a .rbp-listed i)))
 
@@ -164,7 +165,8 @@ module _ (kv rbp : List ℕ) (ls rs : List Call) (l : List (Tagged Call)) (w : I
   abbrev asked : Format → List ℕ → (Call → Bool) → List Name
   asked F area t = dedup (names F area ++ (namesWhere t ls ++ namesWhere t rs))
 
-  asked-call : (F : Format) (area : List ℕ) (t : Call → Bool) (d : Side) (c : Call) → List·Memᴰ (by d c) l → t c ≡ true → List·Memᴰ (callName c) (asked F area t)
+  asked-call : (F : Format) (area : List ℕ) (t : Call → Bool) (d : Side) (c : Call) → List·Memᴰ (by d c) l → t c ≡ true
+      → List·Memᴰ (callName c) (asked F area t)
   asked-call F area t d c m h = dedup-in (callName c) _ (Memᴰ·append-right (names F area) (split (isSide left d)
       (λ e. Memᴰ·append-left (namesWhere t rs) (where-in t c ls (of-left d c m e) h))
       (λ e. Memᴰ·append-right (namesWhere t ls) (where-in t c rs (of-right d c m (side-other d e)) h))))
@@ -172,27 +174,39 @@ module _ (kv rbp : List ℕ) (ls rs : List Call) (l : List (Tagged Call)) (w : I
   asked-start : (F : Format) (area : List ℕ) (t : Call → Bool) (n : Name) → List·Memᴰ n (names F area) → List·Memᴰ n (asked F area t)
   asked-start F area t n m = dedup-in n _ (Memᴰ·append-left (namesWhere t ls ++ namesWhere t rs) m)
 
+  abbrev kvAsked : List Name
+  kvAsked = asked kvFormat kv isSet
+
+  abbrev rbpAsked : List Name
+  rbpAsked = asked rbpFormat rbp isProtectedSet
+
+  abbrev end : Areas
+  end = atEnd kv rbp ls rs l
+
   module _ (mine : Side → Bool) (Mine : Name → Type 0)
       (ours : (d : Side) (c : Call) → List·Memᴰ (by d c) l → mine d ≡ true → Mine (callName c))
       (others : (d : Side) (c : Call) → List·Memᴰ (by d c) l → mine d ≡ false → ¬ Mine (callName c)) where
     abbrev OkHere : Areas → Type 0
-    OkHere = Ok (asked kvFormat kv isSet) (asked rbpFormat rbp isProtectedSet) (length kv) (length rbp) mine Mine
+    OkHere = Ok kvAsked rbpAsked (length kv) (length rbp) mine Mine
+
+    abbrev own : List Call
+    own = part mine l
 
     ok-start : OkHere (areas kv rbp)
     ok-start = record {
-      kv-sound = record { size = p .undamaged .kv-sized; good = p .undamaged .kv-intact };
-      rbp-sound = record { size = p .undamaged .rbp-sized; good = p .undamaged .rbp-intact };
+      kv-sound = kv-sound-of (p .undamaged);
+      rbp-sound = rbp-sound-of (p .undamaged);
       kv-roomy = start-roomy kvFormat _ kv (asked-start kvFormat kv isSet) (p .kv-room);
       rbp-roomy = start-roomy rbpFormat _ rbp (asked-start rbpFormat rbp isProtectedSet) (p .rbp-room);
       kv-length = refl;
       rbp-length = refl;
     }
 
-    seen : (part mine (answers (sharedStep storeStep) (areas kv rbp) l) ≡ answers modelStep (modelOf kv rbp) (part mine l))
-        × ((n : Name) → Mine n → bindingOf (atEnd kv rbp ls rs l .kv) (atEnd kv rbp ls rs l .rbp) n ≡ modelBinding (final modelStep (modelOf kv rbp) (part mine l)) n)
-        × OkHere (atEnd kv rbp ls rs l)
+    seen : (part mine (answers (sharedStep storeStep) (areas kv rbp) l) ≡ answers modelStep (modelOf kv rbp) own)
+        × ((n : Name) → Mine n → bindingOf (end .kv) (end .rbp) n ≡ modelBinding (final modelStep (modelOf kv rbp) own) n)
+        × OkHere end
     seen = alone storeStep modelStep mine _ _ _
-        (separate storeWorld modelWorld requestOf mine Mine _ _ (agreeing (asked kvFormat kv isSet) (asked rbpFormat rbp isProtectedSet) (length kv) (length rbp) mine Mine))
+        (separate storeWorld modelWorld requestOf mine Mine _ _ (agreeing kvAsked rbpAsked (length kv) (length rbp) mine Mine))
         (areas kv rbp) (modelOf kv rbp) l
         (each-in _ l (λ d c m. record {
           ours = ours d c m;
@@ -219,7 +233,7 @@ module _ (kv rbp : List ℕ) (ls rs : List Call) (l : List (Tagged Call)) (w : I
         left-contents = λ n j. rw (w .left) at (a .1 n j);
         right-contents = λ n j. rw (w .right) at (b .1 n j);
         other-contents = λ n i j. (rw (part-none l) at (o .1 n (i, j))) ∙ sym (model-start kv rbp n);
-        undamaged = record { kv-sized = a .2 .kv-sound .size; rbp-sized = a .2 .rbp-sound .size; kv-intact = a .2 .kv-sound .good; rbp-intact = a .2 .rbp-sound .good };
+        undamaged = both-sound (a .2 .kv-sound) (a .2 .rbp-sound);
         kv-length = a .2 .kv-length;
         rbp-length = a .2 .rbp-length;
       }

@@ -1,5 +1,5 @@
 -- The exact condition for an iterator_next's 0, and what it gives.
-use mathlib.Core.Path.{_≡_, refl, sym, _∙_}
+use mathlib.Core.Path.{_≡_, refl, _∙_}
 use mathlib.Core.Bool.{Bool, true, false, not}
 use mathlib.Core.List.{List, [], _∷_, _++_}
 use mathlib.Core.Option.{Option, none, some}
@@ -9,17 +9,17 @@ use borrow.Author.Tests.{ltb-true, ltb-false, lt-ltb, leb-true, le-leb}
 use lib.Dec.{ltb, leb}
 use lib.ListN.{length, getD, take, drop, length-drop}
 use lib.Seq.{getD-drop}
-use Rattle.spec.specs.Bytes.{any}
+use Rattle.buffers.specs.Bytes.{any}
 use Rattle.spec.specs.Status.{ok, Test, _when_, firstOf, onOk}
 use Rattle.spec.specs.Name.{Name, validPrefix}
 use Rattle.spec.specs.Slots.{firstIndex}
 use Rattle.spec.specs.Area.{kvFormat, slotHolder, slotCount, slots}
 use Rattle.spec.specs.Calls.{areas, nameHasPrefix, slotHasPrefix, nextMatch, iteratorTests, storeIteratorNext}
 use Rattle.spec.specs.Demand2.{done, Match, Iterable, IteratorExact}
-use Rattle.spec.proofs.Split.{split, clash, not-false-is}
-use Rattle.spec.proofs.Bytes.{bytesEq-eq, eq-bytesEq}
-use Rattle.spec.proofs.Chunks.{length-chunks}
-use Rattle.spec.proofs.First.{any-first, any-at, first-passes, first-lowest}
+use Rattle.buffers.proofs.Split.{split, clash, not-false-is}
+use Rattle.buffers.proofs.Bytes.{bytesEq-eq, eq-bytesEq}
+use Rattle.spec.proofs.Chunks.{slots-length}
+use Rattle.spec.proofs.First.{any-first, any-at, first-below, first-passes, first-lowest}
 use Rattle.spec.proofs.World.{accepted, acceptable}
 
 -- ---- the test of a slot
@@ -42,8 +42,8 @@ module _ (kv prefix : List ℕ) (start : ℕ) where
   abbrev ahead : ℕ
   ahead = firstIndex test (drop start all)
 
-  count-is : length all ≡ slotCount kvFormat kv
-  count-is = length-chunks 584 (slotCount kvFormat kv) kv
+  has-prefix : (i : ℕ) (name : Name) → slotHolder kvFormat (getD all i []) ≡ some name → prefix ≡ take (length prefix) name → test (getD all i []) ≡ true
+  has-prefix i name = name-prefix prefix (slotHolder kvFormat (getD all i [])) name
 
   -- a match is ahead, when some slot from the start on passes the test
   module _ (h : start + ahead < length all) where
@@ -59,49 +59,52 @@ module _ (kv prefix : List ℕ) (start : ℕ) where
         let f = first-lowest test (drop start all) [] (j - start) (omega arith) in
         rw e at (rw (getD-drop start all (j - start) []) at f)
 
-    pub a-match : (name : Name) × Match kv prefix start (start + ahead) name
+    a-match : (name : Name) × Match kv prefix start (start + ahead) name
     a-match =
         let p = prefix-name prefix (slotHolder kvFormat (getD all (start + ahead) [])) passes in
-        let c = count-is in (
+        let c = slots-length kvFormat kv in (
           p .0,
           record {
             from-start = omega arith;
             in-range = omega arith;
             held = p .1;
             prefixed = p .2;
-            lowest = λ j other l k e z. clash (test (getD all j [])) (name-prefix prefix _ other e z) (below j l k);
+            lowest = λ j other l k e z. clash (test (getD all j [])) (has-prefix j other e z) (below j l k);
           },
         )
 
-  -- a slot from the start on with the prefix is not before the first match
-  pub ahead-of : (i : ℕ) (name : Name) → start ≤ i → i < slotCount kvFormat kv → slotHolder kvFormat (getD all i []) ≡ some name → prefix ≡ take (length prefix) name
-      → start + ahead < length all
-  ahead-of i name l r h z =
-      let c = count-is in
+  -- a slot from the start on that passes the test is not before the first match
+  ahead-of : (i : ℕ) → start ≤ i → i < slotCount kvFormat kv → test (getD all i []) ≡ true → start + ahead < length all
+  ahead-of i l r h =
+      let c = slots-length kvFormat kv in
       let e : start + (i - start) ≡ i = omega arith in
-      let p : test (getD (drop start all) (i - start) []) ≡ true = rw (getD-drop start all (i - start) [], e) (name-prefix prefix (slotHolder kvFormat (getD all i [])) name h z) in
+      let p : test (getD (drop start all) (i - start) []) ≡ true = rw (getD-drop start all (i - start) [], e) h in
       let a = any-at test (drop start all) [] (i - start) (rw (length-drop start all) (omega arith)) p in
-      let f = ltb-true ahead (length (drop start all)) (sym (any-first test (drop start all)) ∙ a) in
+      let f = first-below test (drop start all) a in
       let d = length-drop start all in
       omega arith
 
   -- a match decides where the first one is
   module _ (i : ℕ) (name : Name) (m : Match kv prefix start i name) where
+    own-passes : test (getD all i []) ≡ true
+    own-passes = has-prefix i name (m .held) (m .prefixed)
+
     match-ahead : start + ahead < length all
-    match-ahead = ahead-of i name (m .from-start) (m .in-range) (m .held) (m .prefixed)
+    match-ahead = ahead-of i (m .from-start) (m .in-range) own-passes
+
+    not-before : start + ahead < i → ⊥
+    not-before k =
+        let p = prefix-name prefix (slotHolder kvFormat (getD all (start + ahead) [])) (passes match-ahead) in
+        m .lowest (start + ahead) (p .0) (omega arith) k (p .1) (p .2)
+
+    not-behind : i < start + ahead → ⊥
+    not-behind k = clash (test (getD all i [])) own-passes (below match-ahead i (m .from-start) k)
 
     match-is : start + ahead ≡ i
-    match-is = split (ltb (start + ahead) i)
-        (λ e.
-        let k = ltb-true (start + ahead) i e in
-        let p = prefix-name prefix (slotHolder kvFormat (getD all (start + ahead) [])) (passes match-ahead) in
-        absurd (m .lowest (start + ahead) (p .0) (omega arith) k (p .1) (p .2)))
-        (λ e.
+    match-is = split (ltb (start + ahead) i) (λ e. absurd (not-before (ltb-true (start + ahead) i e))) (λ e.
         let k = ltb-false (start + ahead) i e in
         split (ltb i (start + ahead))
-        (λ f.
-        let l = m .from-start in
-        clash (test (getD all i [])) (name-prefix prefix (slotHolder kvFormat (getD all i [])) name (m .held) (m .prefixed)) (below match-ahead i l (ltb-true i (start + ahead) f)))
+        (λ f. absurd (not-behind (ltb-true i (start + ahead) f)))
         (λ f. let q = ltb-false i (start + ahead) f in omega arith))
 
 module _ (kv rbp prefix : List ℕ) (start : ℕ) (nameBuf : List ℕ) where
@@ -136,7 +139,7 @@ module _ (kv rbp prefix : List ℕ) (start : ℕ) (nameBuf : List ℕ) where
     iterable-ok : iteratorStatus ≡ ok
     iterable-ok =
         let r = h .found .in-range in
-        let c = count-is kv prefix start in
+        let c = slots-length kvFormat kv in
         acceptable (areas kv rbp) early tests (record {
           undamaged = h .undamaged;
           lengths = (rw (le-leb 64 (length nameBuf) (h .buf-sized)), tt);

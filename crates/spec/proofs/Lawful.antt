@@ -6,7 +6,7 @@ use mathlib.Core.Option.{none}
 use Prim.Native.Nat.{ℕ}
 use borrow.Author.Tests.{eqb-true}
 use lib.ListN.{length}
-use Rattle.spec.specs.Bytes.{every}
+use Rattle.buffers.specs.Bytes.{every}
 use Rattle.spec.specs.Status.{refuseIf, firstOf}
 use Rattle.spec.specs.Name.{validName}
 use Rattle.spec.specs.Record.{requireReplayProtection, flagsOf}
@@ -15,7 +15,7 @@ use Rattle.spec.specs.Request.{Binding, Room, Request}
 use Rattle.spec.specs.Decisions.{recordOf, setHeld, setEffect, getHeld, removeHeld, removeEffect, setRequest, getRequest, getInfoRequest, removeRequest}
 use Rattle.spec.specs.Calls.{Areas}
 use Rattle.spec.specs.Model.{Call, setCall, getCall, getInfoCall, removeCall, requestOf}
-use Rattle.spec.proofs.Split.{split, not-false-is}
+use Rattle.buffers.proofs.Split.{split, not-false-is}
 use Rattle.spec.proofs.Area.{GoodEdit, WhenWritten}
 use Rattle.spec.proofs.Status.{number, Passed, nonzero}
 use Rattle.spec.proofs.World.{order}

@@ -1,5 +1,4 @@
-pub mod Split
-pub mod Bytes
+pub mod NameLists
 pub mod Name
 pub mod Slots
 pub mod Chunks

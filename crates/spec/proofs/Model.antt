@@ -5,14 +5,14 @@ use mathlib.Core.Bool.{false}
 use mathlib.Core.List.{List, [], _∷_}
 use mathlib.Core.Option.{none}
 use Prim.Native.Nat.{ℕ}
-use Rattle.spec.specs.Bytes.{bytesEq}
+use Rattle.buffers.specs.Bytes.{bytesEq}
 use Rattle.spec.specs.Name.{Name}
 use Rattle.spec.specs.Slots.{findFirst, mapOption}
 use Rattle.spec.specs.Area.{Format, kvFormat, rbpFormat, slotPayload, slotHolder, holds, slots, lookup, Edit, keep, write, clear}
 use Rattle.spec.specs.Calls.{bindingOf}
 use Rattle.spec.specs.Model.{Item, tableLookup, tableRemove, tableEdit, itemsOf, modelOf, modelBinding}
-use Rattle.spec.proofs.Split.{split, splitO}
-use Rattle.spec.proofs.Bytes.{bytesEq-eq, bytesEq-refl, bytesEq-not}
+use Rattle.buffers.proofs.Split.{split, splitO}
+use Rattle.buffers.proofs.Bytes.{bytesEq-eq, bytesEq-refl, bytesEq-not}
 use Rattle.spec.proofs.Area.{editOption}
 
 removed-same : (t : List Item) (n : Name) → tableLookup (tableRemove t n) n ≡ none

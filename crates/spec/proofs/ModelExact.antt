@@ -9,21 +9,20 @@ use borrow.Author.Tests.{eqb-true}
 use lib.ListN.{length}
 use Rattle.spec.specs.Status.{ok, firstOf}
 use Rattle.spec.specs.Name.{Name}
-use Rattle.spec.specs.Record.{requireReplayProtection, flagsOf, tagOf, metadata, encKey, authKey, crypt, recordCmac, sealedIv, sealedData, sealedTag, sealRecord, plaintext, Sealable}
+use Rattle.spec.specs.Record.{requireReplayProtection, flagsOf, tagOf, encKey, crypt, sealRecord, plaintext, Sealable}
 use Rattle.spec.specs.Area.{kvFormat, rbpFormat, keep, write, clear}
 use Rattle.spec.specs.Request.{Effect, statusOf, run}
 use Rattle.spec.specs.Decisions.{recordOf, setHeld, setEffect, readCount, readOutput, removeEffect}
-use Rattle.spec.specs.Calls.{areas, areaLengths, areaDamage, bindingOf, roomOf, storeWorld, storeSet, storeGet, storeGetInfo, storeRemove}
+use Rattle.spec.specs.Calls.{areas, bindingOf, roomOf, storeWorld, storeSet, storeGet, storeGetInfo, storeRemove}
 use Rattle.spec.specs.Model.{Call, setCall, getCall, getInfoCall, removeCall, requestOf, callName, Model, modelBinding, modelEdit, modelWorld}
-use Rattle.spec.specs.Demand2.{Undamaged, FreeSlot, recordMade, tagMade}
+use Rattle.spec.specs.Demand2.{Undamaged, FreeSlot, recordMade}
 use Rattle.spec.specs.Demand3.{StepIsCall, after, reply, ModelSets, ModelRemoves, ModelExact}
-use Rattle.spec.proofs.Split.{not-false-is}
+use Rattle.buffers.proofs.Split.{not-false-is}
 use Rattle.spec.proofs.Area.{editOption}
-use Rattle.spec.proofs.Status.{all-passed, past, under, by-status}
-use Rattle.spec.proofs.Record.{sealed-tag}
-use Rattle.spec.proofs.World.{lengths-passed, damage-passed, run-done, run-refused, after-done, after-refused}
+use Rattle.spec.proofs.Status.{all-passed, by-status}
+use Rattle.spec.proofs.World.{own-tests, run-done, run-refused, after-done, after-refused}
 use Rattle.spec.proofs.Decision.{decided, decided-sealable}
-use Rattle.spec.proofs.Set.{has-space}
+use Rattle.spec.proofs.Set.{sealed-bytes, tag-bytes, has-space}
 use Rattle.spec.proofs.Model.{table-same, table-other, model-start}
 use Rattle.spec.proofs.Lawful.{enough}
 
@@ -52,8 +51,7 @@ as-store m c kv rbp u f g e =
     let q = requestOf c in
     let s = areas kv rbp in
     let tests = q .tests (bindingOf kv rbp (callName c)) (roomOf kv rbp) in
-    let own : statusOf storeWorld s q ≡ firstOf (q .early ++ tests) =
-    past (areaLengths s) (q .early ++ (areaDamage s ++ tests)) (lengths-passed s u) ∙ under (q .early) (areaDamage s ++ tests) tests (past (areaDamage s) tests (damage-passed s u)) in
+    let own : statusOf storeWorld s q ≡ firstOf (q .early ++ tests) = own-tests s (q .early) tests u in
     let same : statusOf modelWorld m q ≡ statusOf storeWorld s q = sym (own ∙ rw (has-space kvFormat kv f, has-space rbpFormat rbp g, e)) in
     rw (same, e)
 
@@ -75,20 +73,17 @@ module _ (m : Model) (key name : List ℕ) (flags : ℕ) (iv value : List ℕ) (
       decided-sealable requireReplayProtection name flags value b enough iv (decided requireReplayProtection name flags value b enough (p .1 .1)) i
 
   stored-in : after m c name .stored ≡ some (recordMade key name flags iv value)
-  unfolding setEffect sealRecord metadata sealedIv sealedData sealedTag recordCmac authKey crypt encKey
-  stored-in = ap (λ (x : Model). modelBinding x name .stored) (after-done modelWorld m (requestOf c) h) ∙ table-same (m .records) name (write sealed)
+  unfolding setEffect
+  stored-in = ap (λ (x : Model). modelBinding x name .stored) (after-done modelWorld m (requestOf c) h)
+      ∙ table-same (m .records) name (write sealed) ∙ ap some (sealed-bytes key name flags iv value)
 
   tag-edit : after m c name .tag ≡ editOption (cond (requireReplayProtection flags) (write (tagOf sealed)) keep) (modelBinding m name .tag)
   unfolding setEffect
   tag-edit = ap (λ (x : Model). modelBinding x name .tag) (after-done modelWorld m (requestOf c) h)
       ∙ table-same (m .tags) name (cond (requireReplayProtection flags) (write (tagOf sealed)) keep)
 
-  tag-is : tagOf sealed ≡ tagMade key name flags iv value
-  unfolding metadata sealedIv sealedData sealedTag recordCmac authKey crypt encKey
-  tag-is = sealed-tag key name flags iv value ready
-
   sets : ModelSets m key name flags iv value (after m c name)
-  sets = record { stored = stored-in; tag = λ e. tag-edit ∙ rw e (ap some tag-is); tag-kept = λ e. tag-edit ∙ rw e }
+  sets = record { stored = stored-in; tag = λ e. tag-edit ∙ rw e (ap some (tag-bytes key name flags iv value ready)); tag-kept = λ e. tag-edit ∙ rw e }
 
 module _ (m : Model) (name r : List ℕ) (h : reply m (removeCall name) .status ≡ ok) (held : modelBinding m name .stored ≡ some r) where
   stored-out : after m (removeCall name) name .stored ≡ none

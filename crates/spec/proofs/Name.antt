@@ -7,9 +7,9 @@ use native.Mathlib.Omega.{arith}
 use borrow.Author.Tests.{leb-true, le-leb, ltb-true, ltb-false}
 use lib.Dec.{leb, ltb}
 use lib.ListN.{length, length-append}
-use Rattle.spec.specs.Bytes.{every}
+use Rattle.buffers.specs.Bytes.{every}
 use Rattle.spec.specs.Name.{Name, validNameByte, validName, hexDigit, hexDigits, keyName}
-use Rattle.spec.proofs.Split.{split, both}
+use Rattle.buffers.proofs.Split.{split, both}
 
 pub record ValidName (n : Name) : Type 0 where
   pub not-empty : 1 ≤ length n

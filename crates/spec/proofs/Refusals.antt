@@ -7,7 +7,7 @@ use mathlib.Core.Option.{none}
 use Prim.Native.Nat.{ℕ}
 use lib.Dec.{eqb, leb, ltb}
 use lib.ListN.{length}
-use Rattle.spec.specs.Bytes.{isSome}
+use Rattle.buffers.specs.Bytes.{isSome}
 use Rattle.spec.specs.Status.{Test, _when_, refuseIf, firstOf}
 use Rattle.spec.specs.Name.{validName, validPrefix}
 use Rattle.spec.specs.Record.{writeOnce, requireIntegrity, requireReplayProtection, validFlags, dataSizeOf, flagsOf, wellFormed, macOk}

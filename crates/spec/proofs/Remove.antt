@@ -1,11 +1,11 @@
 -- The exact condition for a remove's 0, and what it clears.
-use mathlib.Core.Path.{_≡_, refl, sym, _∙_}
+use mathlib.Core.Path.{_≡_, refl, _∙_}
 use mathlib.Core.Bool.{Bool, true, false, cond, not}
 use mathlib.Core.List.{List, [], _∷_}
 use mathlib.Core.Option.{none, some}
 use Prim.Native.Nat.{ℕ, _*_}
 use lib.ListN.{length}
-use Rattle.spec.specs.Bytes.{any, isSome, zeros}
+use Rattle.buffers.specs.Bytes.{any, isSome, zeros}
 use Rattle.spec.specs.Status.{ok}
 use Rattle.spec.specs.Name.{validName}
 use Rattle.spec.specs.Record.{requireReplayProtection, flagsOf, wellFormed}
@@ -15,19 +15,13 @@ use Rattle.spec.specs.Request.{statusOf}
 use Rattle.spec.specs.Decisions.{removeHeld, removeTests, removeEffect, removeRequest}
 use Rattle.spec.specs.Calls.{areas, bindingOf, storeWorld, storeRemove}
 use Rattle.spec.specs.Demand2.{done, Placed, Removable, Cleared, Clears, RemoveExact}
-use Rattle.spec.proofs.Split.{split, splitO, clash, clashO, neither, not-false-is}
-use Rattle.spec.proofs.Slots.{find-any, held-at}
-use Rattle.spec.proofs.Chunks.{join-chunks}
+use Rattle.buffers.proofs.Split.{split, splitO, clash, clashO, neither, not-false-is}
+use Rattle.spec.proofs.Slots.{held-at}
+use Rattle.spec.proofs.Chunks.{slots-joined}
 use Rattle.spec.proofs.Slot.{FormatLaws, kv-laws, rbp-laws}
-use Rattle.spec.proofs.Area.{Sound, sized-length, find-of-none, find-of-some, slot-erase, slot-erase-other}
+use Rattle.spec.proofs.Area.{Sound, sized-length, any-of-some, any-of-none, slot-erase, slot-erase-other}
 use Rattle.spec.proofs.First.{first-in-range, first-passes, splice}
-use Rattle.spec.proofs.World.{run-done, accepted, acceptable}
-
-any-of-some : (F : Format) (area n p : List ℕ) → lookup F area n ≡ some p → any (holds F n) (slots F area) ≡ true
-any-of-some F area n p h = sym (find-any (holds F n) (slots F area)) ∙ rw (find-of-some F area n p h .1)
-
-any-of-none : (F : Format) (area n : List ℕ) → lookup F area n ≡ none → any (holds F n) (slots F area) ≡ false
-any-of-none F area n h = sym (find-any (holds F n) (slots F area)) ∙ rw (find-of-none F area n h)
+use Rattle.spec.proofs.World.{run-done, kv-sound-of, rbp-sound-of, accepted, acceptable}
 
 -- an erase: what the area then holds, and where
 module _ (F : Format) (L : FormatLaws F) (area n p : List ℕ) (s : Sound F area) (h : lookup F area n ≡ some p) where
@@ -54,7 +48,7 @@ replace-none t q (s ∷ ss) h = let k = neither (t s) (any t ss) h in rw (k .0, 
 not-erased : (F : Format) (area n : List ℕ) → length area ≡ slotCount F area * F .slotSize → lookup F area n ≡ none → eraseSlot F area n ≡ area
 unfolding eraseSlot
 not-erased F area n z h =
-    rw (replace-none (holds F n) (zeros (F .slotSize)) (slots F area) (any-of-none F area n h)) (join-chunks (F .slotSize) (slotCount F area) area z)
+    rw (replace-none (holds F n) (zeros (F .slotSize)) (slots F area) (any-of-none F area n h)) (slots-joined F area z)
 
 module _ (kv rbp name : List ℕ) where
   abbrev pub removeStatus : ℕ
@@ -102,8 +96,8 @@ module _ (kv rbp name : List ℕ) where
         let z = sized-length rbpFormat rbp (u .rbp-sized) in
         record {
           answer = rw remove-done;
-          slot = rw remove-done (erased kvFormat kv-laws kv name (h .r) (record { size = u .kv-sized; good = u .kv-intact }) (h .found));
-          rbp-slot = λ e t k. rw (rbp-cleared e) (erased rbpFormat rbp-laws rbp name t (record { size = u .rbp-sized; good = u .rbp-intact }) k);
+          slot = rw remove-done (erased kvFormat kv-laws kv name (h .r) (kv-sound-of u) (h .found));
+          rbp-slot = λ e t k. rw (rbp-cleared e) (erased rbpFormat rbp-laws rbp name t (rbp-sound-of u) k);
           rbp-absent = λ k. split (requireReplayProtection (flagsOf (h .r))) (λ e. rbp-cleared e ∙ not-erased rbpFormat rbp name z k) (λ e. rbp-unchanged e);
           rbp-kept = λ e. rbp-unchanged e;
         }

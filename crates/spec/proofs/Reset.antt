@@ -4,12 +4,12 @@ use mathlib.Core.Bool.{true}
 use mathlib.Core.List.{List, []}
 use Prim.Native.Nat.{ℕ}
 use lib.ListN.{length}
-use Rattle.spec.specs.Bytes.{zeros}
+use Rattle.buffers.specs.Bytes.{zeros}
 use Rattle.spec.specs.Status.{ok, refuseIf, onOk}
 use Rattle.spec.specs.Area.{kvFormat, rbpFormat, sized}
 use Rattle.spec.specs.Calls.{areas, areaLengths, storeReset}
 use Rattle.spec.specs.Demand2.{done, ResetExact}
-use Rattle.spec.proofs.Split.{not-false-is}
+use Rattle.buffers.proofs.Split.{not-false-is}
 use Rattle.spec.proofs.Status.{all-passed}
 
 resettable : (kv rbp : List ℕ) → storeReset kv rbp .answer .status ≡ ok → (sized kvFormat kv ≡ true) × (sized rbpFormat rbp ≡ true)

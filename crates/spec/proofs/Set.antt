@@ -1,5 +1,5 @@
 -- Demand 2, the exact condition for a set's 0, the round trip, and what an accepted set stores.
-use mathlib.Core.Path.{_≡_, refl, _∙_}
+use mathlib.Core.Path.{_≡_, refl, ap, _∙_}
 use mathlib.Core.Bool.{true, false, cond, not, _||_}
 use mathlib.Core.List.{List, [], _∷_, _++_, append-nil}
 use Prim.Native.Nat.{ℕ, _-_, _≤_, _<_, zero-le, min}
@@ -12,20 +12,21 @@ use Rattle.spec.specs.Status.{ok, Test, _when_}
 use Rattle.spec.specs.Record.{requireIntegrity, requireReplayProtection, validFlags, metadata, dataSizeOf, tagOf}
 use Rattle.spec.specs.Record.{encKey, authKey, crypt, recordCmac, sealedIv, sealedData, sealedTag, sealRecord, plaintext, Sealable}
 use Rattle.spec.specs.Slots.{firstIndex}
-use Rattle.spec.specs.Area.{Format, kvFormat, rbpFormat, slotFree, slotHolder, makeSlot, slotCount, slots, hasSpace, target, insertSlot, keep, write, editArea}
+use Rattle.spec.specs.Area.{Format, kvFormat, rbpFormat, slotFree, slotHolder, makeSlot, slots, hasSpace, target, insertSlot, Edit, keep, write, editArea}
 use Rattle.spec.specs.Layout.{placeBytes, entryBytes}
 use Rattle.spec.specs.Request.{statusOf}
 use Rattle.spec.specs.Decisions.{keySized, ivSized, setHeld, setTests, setEffect, setRequest}
-use Rattle.spec.specs.Calls.{areas, bindingOf, roomOf, storeWorld, storeSet, storeGet}
+use Rattle.spec.specs.Calls.{Areas, areas, bindingOf, roomOf, storeWorld, storeSet, storeGet}
 use Rattle.spec.specs.Demand2.{done, Readable, FreeSlot, Settable, SetExact, RoundTrip, recordMade, tagMade, Placed, Stored, Stores}
-use Rattle.spec.proofs.Split.{split, both, not-false-is}
+use Rattle.buffers.proofs.Split.{split, both, not-false-is}
 use Rattle.spec.proofs.Slots.{held-at}
-use Rattle.spec.proofs.Chunks.{length-chunks}
+use Rattle.spec.proofs.Chunks.{slots-length}
 use Rattle.spec.proofs.Slot.{FormatLaws, kv-laws, rbp-laws}
 use Rattle.spec.proofs.Area.{Sound, sized-length, Good, HasRoom, target-any, insert-sound, slot-insert, slot-insert-other, lookup-insert}
 use Rattle.spec.proofs.First.{first-in-range, any-at, first-passes, first-lowest, splice}
-use Rattle.spec.proofs.Record.{valid-flags-small, sealed-data-size, sealed-flags, sealed-tag, sealed-tag-length, sealed-valid, sealed-mac, sealed-plaintext}
-use Rattle.spec.proofs.World.{run-done, accepted, acceptable}
+use Rattle.spec.proofs.Record.{valid-flags-small, sealed-data-size, sealed-flags, sealed-tag}
+use Rattle.spec.proofs.Record.{sealed-tag-length, sealed-valid, sealed-mac, sealed-plaintext}
+use Rattle.spec.proofs.World.{run-done, kv-sound-of, rbp-sound-of, both-sound, accepted, acceptable}
 use Rattle.spec.proofs.Decision.{Decided, decided, decided-sealable, decided-passed, sealed-kv-good, sealed-rbp-good}
 use Rattle.spec.proofs.Get.{mac-eq, get-exact}
 
@@ -47,6 +48,19 @@ module _ (F : Format) (L : FormatLaws F) (area n p : List ℕ) (s : Sound F area
 
   stored-in : Stored F area n (makeSlot F n p) (insertSlot F area n p)
   stored-in = (record { own = slot-insert F L area n p s g h; others = slot-insert-other F L area n p s g }, placed)
+
+-- ---- what is stored, byte for byte
+
+module _ (key name : List ℕ) (flags : ℕ) (iv value : List ℕ) where
+  pub sealed-bytes : sealRecord key name flags iv value ≡ recordMade key name flags iv value
+  unfolding sealRecord metadata sealedIv sealedData sealedTag recordCmac authKey crypt encKey
+  sealed-bytes = refl
+
+  pub tag-bytes : Sealable flags iv value → tagOf (sealRecord key name flags iv value) ≡ tagMade key name flags iv value
+  unfolding metadata sealedIv sealedData sealedTag recordCmac authKey crypt encKey
+  tag-bytes ready = sealed-tag key name flags iv value ready
+
+-- ---- an accepted set
 
 module _ (kv rbp key name : List ℕ) (flags : ℕ) (iv value : List ℕ) where
   abbrev early : List Test
@@ -77,8 +91,8 @@ module _ (kv rbp key name : List ℕ) (flags : ℕ) (iv value : List ℕ) where
       let i = eqb-true (length iv) 8 (not-false-is _ (a .lengths .1 .0)) in
       let d = decided requireReplayProtection name flags value (bindingOf kv rbp name) (roomOf kv rbp) (a .rest) in
       record {
-        kv-sound = record { size = u .kv-sized; good = u .kv-intact };
-        rbp-sound = record { size = u .rbp-sized; good = u .rbp-intact };
+        kv-sound = kv-sound-of u;
+        rbp-sound = rbp-sound-of u;
         key-sized = eqb-true (length key) 16 (not-false-is _ (a .lengths .0));
         iv-sized = i;
         choice = d;
@@ -89,6 +103,13 @@ module _ (kv rbp key name : List ℕ) (flags : ℕ) (iv value : List ℕ) where
     abbrev a : Ready
     a = ready-of h
 
+    abbrev after : Areas
+    after = storeSet kv rbp key name flags iv value .after
+
+    -- what is done to the chip
+    abbrev rbp-edit : Edit
+    rbp-edit = cond (requireReplayProtection flags) (write (tagOf sealed)) keep
+
     kv-good : Good kvFormat name sealed
     kv-good = sealed-kv-good key name flags iv value (a .choice .name-valid) (a .sealable)
 
@@ -97,32 +118,34 @@ module _ (kv rbp key name : List ℕ) (flags : ℕ) (iv value : List ℕ) where
 
     -- the areas after it
     set-done : storeSet kv rbp key name flags iv value
-        ≡ done (areas (insertSlot kvFormat kv name sealed) (editArea rbpFormat rbp name (cond (requireReplayProtection flags) (write (tagOf sealed)) keep))) [] []
+        ≡ done (areas (insertSlot kvFormat kv name sealed) (editArea rbpFormat rbp name rbp-edit)) [] []
     unfolding storeSet setEffect
     set-done = run-done storeWorld (areas kv rbp) (setRequest requireReplayProtection key name flags iv value) h
 
-    kv-after : storeSet kv rbp key name flags iv value .after .kv ≡ insertSlot kvFormat kv name sealed
-    kv-after = rw set-done
+    kv-after : after .kv ≡ insertSlot kvFormat kv name sealed
+    kv-after = ap (λ o. o .after .kv) set-done
 
-    rbp-written : requireReplayProtection flags ≡ true → storeSet kv rbp key name flags iv value .after .rbp ≡ insertSlot rbpFormat rbp name (tagOf sealed)
-    rbp-written e = rw (set-done, e)
+    rbp-written : requireReplayProtection flags ≡ true → after .rbp ≡ insertSlot rbpFormat rbp name (tagOf sealed)
+    rbp-written e = ap (λ o. o .after .rbp) set-done ∙ rw e
 
-    rbp-unchanged : requireReplayProtection flags ≡ false → storeSet kv rbp key name flags iv value .after .rbp ≡ rbp
-    rbp-unchanged e = rw (set-done, e)
+    rbp-unchanged : requireReplayProtection flags ≡ false → after .rbp ≡ rbp
+    rbp-unchanged e = ap (λ o. o .after .rbp) set-done ∙ rw e
 
-    rbp-sound-after : Sound rbpFormat (storeSet kv rbp key name flags iv value .after .rbp)
+    kv-sound-after : Sound kvFormat (after .kv)
+    kv-sound-after = rw kv-after (insert-sound kvFormat kv-laws kv name sealed (a .kv-sound) kv-good)
+
+    rbp-sound-after : Sound rbpFormat (after .rbp)
     rbp-sound-after = split (requireReplayProtection flags)
         (λ e. rw (rbp-written e) (insert-sound rbpFormat rbp-laws rbp name (tagOf sealed) (a .rbp-sound) rbp-good))
         (λ e. rw (rbp-unchanged e) (a .rbp-sound))
 
     -- ---- the round trip
 
-    readable : Readable (storeSet kv rbp key name flags iv value .after .kv) (storeSet kv rbp key name flags iv value .after .rbp) key name 0
+    readable : Readable (after .kv) (after .rbp) key name 0
     readable =
         let f = sealed-flags key name flags iv value (a .sealable) in
-        let s = insert-sound kvFormat kv-laws kv name sealed (a .kv-sound) kv-good in
         record {
-          undamaged = record { kv-sized = rw kv-after (s .size); rbp-sized = rbp-sound-after .size; kv-intact = rw kv-after (s .good); rbp-intact = rbp-sound-after .good };
+          undamaged = both-sound kv-sound-after rbp-sound-after;
           key-sized = a .key-sized;
           name-valid = a .choice .name-valid;
           r = sealed;
@@ -143,31 +166,24 @@ module _ (kv rbp key name : List ℕ) (flags : ℕ) (iv value : List ℕ) where
         let c : min (length output) (dataSizeOf sealed - 0) ≡ length value = rw d (omega arith) in
         get-exact _ _ key name 0 output .gives readable ∙ rw (c, p, take-length value)
 
-    -- ---- what is stored, byte for byte
-
-    sealed-bytes : sealed ≡ recordMade key name flags iv value
-    unfolding sealRecord metadata sealedIv sealedData sealedTag recordCmac authKey crypt encKey
-    sealed-bytes = refl
+    -- ---- the slots that are written
 
     slot-bytes : makeSlot kvFormat name sealed ≡ placeBytes name (recordMade key name flags iv value)
     unfolding makeSlot
-    slot-bytes = rw sealed-bytes
-
-    tag-bytes : tagOf sealed ≡ tagMade key name flags iv value
-    unfolding metadata sealedIv sealedData sealedTag recordCmac authKey crypt encKey
-    tag-bytes = sealed-tag key name flags iv value (a .sealable)
+    slot-bytes = rw (sealed-bytes key name flags iv value)
 
     rbp-slot-bytes : makeSlot rbpFormat name (tagOf sealed) ≡ entryBytes name (tagMade key name flags iv value)
     unfolding makeSlot
     rbp-slot-bytes =
         let z = sealed-tag-length key name flags iv value (a .sealable) in
-        rw (z, append-nil (tagOf sealed), tag-bytes)
+        rw (z, append-nil (tagOf sealed), tag-bytes key name flags iv value (a .sealable))
 
     pub stores : Stores kv rbp key name flags iv value (storeSet kv rbp key name flags iv value)
     stores = record {
       answer = rw set-done;
       slot = rw (kv-after, ← slot-bytes) (stored-in kvFormat kv-laws kv name sealed (a .kv-sound) kv-good (a .choice .kv-room));
-      rbp-slot = λ e. rw (rbp-written e, ← rbp-slot-bytes) (stored-in rbpFormat rbp-laws rbp name (tagOf sealed) (a .rbp-sound) rbp-good (a .choice .rbp-room e));
+      rbp-slot = λ e. rw (rbp-written e, ← rbp-slot-bytes)
+          (stored-in rbpFormat rbp-laws rbp name (tagOf sealed) (a .rbp-sound) rbp-good (a .choice .rbp-room e));
       rbp-kept = rbp-unchanged;
     }
 
@@ -183,7 +199,7 @@ free-slot F area h = record {
 
 pub has-space : (F : Format) (area : List ℕ) → FreeSlot F area → hasSpace F area ≡ true
 unfolding hasSpace
-has-space F area f = any-at slotFree (slots F area) [] (f .i) (rw (length-chunks (F .slotSize) (slotCount F area) area) (f .in-range)) (f .free)
+has-space F area f = any-at slotFree (slots F area) [] (f .i) (rw (slots-length F area) (f .in-range)) (f .free)
 
 pub flags-split : (flags : ℕ) → validFlags flags ≡ true → requireReplayProtection flags ≡ true → requireIntegrity flags ≡ true
 unfolding validFlags
@@ -193,39 +209,40 @@ pub flags-join : (flags : ℕ) → flags < 16 → (requireReplayProtection flags
 unfolding validFlags
 flags-join flags s w = rw (lt-ltb flags 16 s) (split (requireReplayProtection flags) (λ e. rw (e, w e)) (λ e. rw e))
 
-settable : (kv rbp key name : List ℕ) (flags : ℕ) (iv value : List ℕ) → setStatus kv rbp key name flags iv value ≡ ok → Settable kv rbp key name flags iv value
-settable kv rbp key name flags iv value h =
-    let a = ready-of kv rbp key name flags iv value h in
-    let d = a .choice in
-    record {
-      undamaged = record { kv-sized = a .kv-sound .size; rbp-sized = a .rbp-sound .size; kv-intact = a .kv-sound .good; rbp-intact = a .rbp-sound .good };
-      key-sized = a .key-sized;
-      iv-sized = a .iv-sized;
-      name-valid = d .name-valid;
-      flags-known = valid-flags-small flags (d .flags-valid);
-      flags-whole = flags-split flags (d .flags-valid);
-      value-sized = d .value-sized;
-      known = d .known;
-      new = d .new;
-      kv-room = λ e. free-slot kvFormat kv (d .kv-room e);
-      rbp-room = λ f e. free-slot rbpFormat rbp (d .rbp-room f e);
-    }
+module _ (kv rbp key name : List ℕ) (flags : ℕ) (iv value : List ℕ) where
+  settable : setStatus kv rbp key name flags iv value ≡ ok → Settable kv rbp key name flags iv value
+  settable h =
+      let a = ready-of kv rbp key name flags iv value h in
+      let d = a .choice in
+      record {
+        undamaged = both-sound (a .kv-sound) (a .rbp-sound);
+        key-sized = a .key-sized;
+        iv-sized = a .iv-sized;
+        name-valid = d .name-valid;
+        flags-known = valid-flags-small flags (d .flags-valid);
+        flags-whole = flags-split flags (d .flags-valid);
+        value-sized = d .value-sized;
+        known = d .known;
+        new = d .new;
+        kv-room = λ e. free-slot kvFormat kv (d .kv-room e);
+        rbp-room = λ f e. free-slot rbpFormat rbp (d .rbp-room f e);
+      }
 
-settable-ok : (kv rbp key name : List ℕ) (flags : ℕ) (iv value : List ℕ) → Settable kv rbp key name flags iv value → setStatus kv rbp key name flags iv value ≡ ok
-settable-ok kv rbp key name flags iv value h =
-    acceptable (areas kv rbp) (early kv rbp key name flags iv value) (tests kv rbp key name flags iv value) (record {
-      undamaged = h .undamaged;
-      lengths = (rw (eq-eqb (length key) 16 (h .key-sized)), (rw (eq-eqb (length iv) 8 (h .iv-sized)), tt));
-      rest = decided-passed requireReplayProtection name flags value (bindingOf kv rbp name) (roomOf kv rbp) (record {
-        name-valid = h .name-valid;
-        flags-valid = flags-join flags (h .flags-known) (h .flags-whole);
-        value-sized = h .value-sized;
-        known = h .known;
-        new = h .new;
-        kv-room = λ e. has-space kvFormat kv (h .kv-room e);
-        rbp-room = λ f e. has-space rbpFormat rbp (h .rbp-room f e);
-      });
-    })
+  settable-ok : Settable kv rbp key name flags iv value → setStatus kv rbp key name flags iv value ≡ ok
+  settable-ok h =
+      acceptable (areas kv rbp) (early kv rbp key name flags iv value) (tests kv rbp key name flags iv value) (record {
+        undamaged = h .undamaged;
+        lengths = (rw (eq-eqb (length key) 16 (h .key-sized)), (rw (eq-eqb (length iv) 8 (h .iv-sized)), tt));
+        rest = decided-passed requireReplayProtection name flags value (bindingOf kv rbp name) (roomOf kv rbp) (record {
+          name-valid = h .name-valid;
+          flags-valid = flags-join flags (h .flags-known) (h .flags-whole);
+          value-sized = h .value-sized;
+          known = h .known;
+          new = h .new;
+          kv-room = λ e. has-space kvFormat kv (h .kv-room e);
+          rbp-room = λ f e. has-space rbpFormat rbp (h .rbp-room f e);
+        });
+      })
 
 pub set-exact : SetExact
 unfolding storeSet

@@ -4,27 +4,35 @@ use mathlib.Core.Logic.{inl, inr, _↔_}
 use mathlib.Core.Bool.{Bool, true, false, _||_}
 use mathlib.Core.List.{List, [], _∷_, _++_, append-assoc, append-nil}
 use mathlib.Core.Option.{Option, none, some}
-use Prim.Native.Nat.{ℕ, zero, suc, _+_, _-_, _*_, _/_, _%_, _≤_, _<_}
-use native.Mathlib.Nat.{not-suc-le-zero, le-of-suc-le-suc}
+use Prim.Native.Nat.{ℕ, _+_, _-_, _*_, _/_, _%_, _≤_}
+use native.Mathlib.Nat.{mul-div-cancel}
 use native.Mathlib.Omega.{arith}
 use borrow.Author.Tests.{eqb-true, eq-eqb, leb-true, leb-false, le-leb}
 use lib.Dec.{eqb, leb}
-use lib.ListN.{length, getD, take, drop, length-append, length-drop, take-append-drop}
-use lib.Seq.{take-at, drop-at, drop-drop, drop-cons, length-take-le}
-use Rattle.spec.specs.Bytes.{every, isSome, allZero, zeros, zeroFill, leBytes, leValue}
+use lib.ListN.{length, getD, take, drop, length-drop, take-append-drop}
+use lib.Seq.{take-at, drop-drop, drop-cons, length-take-le}
+use Rattle.buffers.specs.Bytes.{every, isSome, allZero, zeros, zeroFill, leBytes}
 use Rattle.spec.specs.Name.{validNameByte, validName, validPrefix}
-use Rattle.spec.specs.Record.{requireConfidentiality, requireIntegrity, validFlags, metadataSizeOf, revisionOf, dataSizeOf, flagsOf, ivOf, metadataOf, storedDataOf, tagOf, wellFormed}
-use Rattle.spec.specs.Area.{Format, kvFormat, rbpFormat, stateByte, nameLength, slotFree, payloadSize, slotName, slotPayload, slotUsed, slotValid, slotHolder, makeSlot, slotCount, sized}
+use Rattle.spec.specs.Record.{requireConfidentiality, requireIntegrity, validFlags}
+use Rattle.spec.specs.Record.{dataSizeOf, flagsOf, ivOf, metadataOf, storedDataOf, tagOf, wellFormed}
+use Rattle.spec.specs.Area.{Format, kvFormat, rbpFormat, nameLength, slotFree, payloadSize, slotName}
+use Rattle.spec.specs.Area.{slotPayload, slotUsed, slotValid, slotHolder, makeSlot, slotCount, sized}
 use Rattle.spec.specs.Layout.{metadataBytes, recordBytes}
-use Rattle.spec.specs.Shapes.{AreBytes, Printable, GoodFlags, FlagShape, Multiple, WellFormed, RecordParts, RecordShape, UsedPlace, UsedEntry, SlotShape, Shapes}
-use Rattle.spec.proofs.Split.{split, clash, clashO, both}
-use Rattle.spec.proofs.Bytes.{allZero-zeros, le-value}
+use Rattle.spec.specs.Shapes.{AreBytes, Printable, GoodFlags, FlagShape, Multiple, WellFormed}
+use Rattle.spec.specs.Shapes.{RecordParts, RecordShape, UsedPlace, UsedEntry, SlotShape, Shapes}
+use Rattle.buffers.proofs.Split.{split, clash, both, not-some}
+use Rattle.buffers.proofs.LittleEndian.{number-part}
+use Rattle.buffers.proofs.Bytes.{allZero-zeros, le-value}
+use Rattle.spec.proofs.First.{every-index, index-every}
+use Rattle.spec.proofs.Area.{sized-parts}
 use Rattle.spec.proofs.Intact.{intact-shape, lookup-shape}
 use Rattle.spec.proofs.Name.{valid-name}
-use Rattle.spec.proofs.Slot.{FormatLaws, Fits, kv-laws, rbp-laws, kv-fits, rbp-fits, not-free, made-valid, made-state, made-holder, made-payload, UsedSlot, used-slot}
+use Rattle.spec.proofs.Slot.{FormatLaws, Fits, kv-laws, rbp-laws, kv-fits, rbp-fits, not-free}
+use Rattle.spec.proofs.Slot.{made-valid, made-state, made-holder, made-payload, UsedSlot, used-slot}
 use Rattle.spec.proofs.Get.{mac-eq, eq-mac, match-eq, eq-match}
 use Rattle.spec.proofs.Set.{flags-split, flags-join}
-use Rattle.spec.proofs.Record.{valid-flags-small, ValidRecord, valid-record}
+use Rattle.spec.proofs.Record.{valid-flags-small, ValidRecord, valid-record, valid-long, valid-iv-length, valid-stored-length, valid-tag-length}
+use Rattle.spec.proofs.Record.{joined-length, joined-metadata, joined-stored, joined-tag}
 
 -- ---- names
 
@@ -37,13 +45,10 @@ unfolding validNameByte
 range-byte b h = rw (le-leb 0x21 b (h .0), le-leb b 0x7e (h .1))
 
 printable : (l : List ℕ) → every validNameByte l ≡ true → Printable l
-printable [] h i k = absurd (not-suc-le-zero k)
-printable (x ∷ l) h zero k = byte-range x (both (validNameByte x) (every validNameByte l) h .0)
-printable (x ∷ l) h (suc i) k = printable l (both (validNameByte x) (every validNameByte l) h .1) i (le-of-suc-le-suc k)
+printable l h i k = byte-range (getD l i 0) (every-index validNameByte l 0 h i k)
 
 all-valid : (l : List ℕ) → Printable l → every validNameByte l ≡ true
-all-valid [] h = refl
-all-valid (x ∷ l) h = rw (range-byte x (h 0 (omega arith)), all-valid l (λ i k. h (suc i) (omega arith)))
+all-valid l h = index-every validNameByte l 0 (λ i k. range-byte (getD l i 0) (h i k))
 
 name-shape : (name : List ℕ) → (validName name ≡ true) ↔ ((1 ≤ length name) × (length name ≤ 64) × Printable name)
 unfolding validName
@@ -82,62 +87,30 @@ good-shape flags = (flags-good, good-flags)
     good-flags (inr h) = let a = h .0 in let b = h .1 in flags-join flags (omega arith) (λ e. eq-eqb (flags / 4 % 2) 1 (omega arith))
 
 flag-shape : (flags : ℕ) → FlagShape flags
-flag-shape flags = record { good = good-shape flags; bit-1 = bit (flags % 2); bit-2 = bit (flags / 2 % 2); bit-4 = bit (flags / 4 % 2); bit-8 = bit (flags / 8 % 2) }
+flag-shape flags = record {
+  good = good-shape flags;
+  bit-1 = bit (flags % 2);
+  bit-2 = bit (flags / 2 % 2);
+  bit-4 = bit (flags / 4 % 2);
+  bit-8 = bit (flags / 8 % 2);
+}
 
 -- ---- lengths
 
-kv-sized : (area : List ℕ) → sized kvFormat area ≡ true → Multiple 584 area
-unfolding sized
-kv-sized area h =
-    let a = both _ _ h in
-    let b = both _ _ (a .1) in
-    (slotCount kvFormat area, leb-true _ _ (b .0), leb-true _ _ (b .1), eqb-true _ _ (a .0))
+module _ (F : Format) (L : FormatLaws F) (area : List ℕ) where
+  sized-multiple : sized F area ≡ true → Multiple (F .slotSize) area
+  sized-multiple h = let p = sized-parts F area h in (slotCount F area, p .1, p .2, p .0)
 
-rbp-sized : (area : List ℕ) → sized rbpFormat area ≡ true → Multiple 82 area
-unfolding sized
-rbp-sized area h =
-    let a = both _ _ h in
-    let b = both _ _ (a .1) in
-    (slotCount rbpFormat area, leb-true _ _ (b .0), leb-true _ _ (b .1), eqb-true _ _ (a .0))
-
-sized-kv : (area : List ℕ) → Multiple 584 area → sized kvFormat area ≡ true
-unfolding sized
-sized-kv area (k, p, q, e) =
-    let c : slotCount kvFormat area ≡ k = omega arith in
-    rw (c, eq-eqb (length area) (k * 584) e, le-leb 1 k p, le-leb k 64 q)
-
-sized-rbp : (area : List ℕ) → Multiple 82 area → sized rbpFormat area ≡ true
-unfolding sized
-sized-rbp area (k, p, q, e) =
-    let c : slotCount rbpFormat area ≡ k = omega arith in
-    rw (c, eq-eqb (length area) (k * 82) e, le-leb 1 k p, le-leb k 64 q)
+  multiple-sized : Multiple (F .slotSize) area → sized F area ≡ true
+  unfolding sized
+  multiple-sized (k, p, q, e) =
+      let c : slotCount F area ≡ k = rw e (mul-div-cancel k (L .positive)) in
+      rw (c, eq-eqb (length area) (k * F .slotSize) e, le-leb 1 k p, le-leb k 64 q)
 
 -- ---- bytes of a list
 
--- k elements from index j on
-abbrev pub front : ℕ → ℕ → List ℕ → List ℕ
-front zero j l = []
-front (suc k) j l = getD l j 0 ∷ front k (suc j) l
-
-pub front-drop : (k j : ℕ) (l : List ℕ) → j + k ≤ length l → drop j l ≡ front k j l ++ drop (j + k) l
-front-drop zero j l h = let e : j + 0 ≡ j = omega arith in rw e
-front-drop (suc k) j l h =
-    let e : suc j + k ≡ j + suc k = omega arith in
-    drop-cons l j 0 (omega arith) ∙ ap (λ (t : List ℕ). getD l j 0 ∷ t) (front-drop k (suc j) l (omega arith) ∙ ap (λ (n : ℕ). front k (suc j) l ++ drop n l) e)
-
-low-byte : (k b v : ℕ) → b < 256 → leBytes (suc k) (b + 256 * v) ≡ b ∷ leBytes k v
-low-byte k b v h =
-    let p : (b + 256 * v) % 256 ≡ b = omega arith in
-    let q : (b + 256 * v) / 256 ≡ v = omega arith in
-    λ i. p i ∷ leBytes k (q i)
-
-two-bytes : (a b : ℕ) → a < 256 → b < 256 → leBytes 2 (leValue (a ∷ b ∷ [])) ≡ a ∷ b ∷ []
-two-bytes a b p q = low-byte 1 a (leValue (b ∷ [])) p ∙ ap (λ (t : List ℕ). a ∷ t) (low-byte 0 b 0 q)
-
-pub four-bytes : (a b c d : ℕ) → a < 256 → b < 256 → c < 256 → d < 256 → leBytes 4 (leValue (a ∷ b ∷ c ∷ d ∷ [])) ≡ a ∷ b ∷ c ∷ d ∷ []
-four-bytes a b c d p q r s =
-    low-byte 3 a (leValue (b ∷ c ∷ d ∷ [])) p
-    ∙ ap (λ (t : List ℕ). a ∷ t) (low-byte 2 b (leValue (c ∷ d ∷ [])) q ∙ ap (λ (t : List ℕ). b ∷ t) (two-bytes c d r s))
+two-front : (l : List ℕ) → 2 ≤ length l → l ≡ getD l 0 0 ∷ getD l 1 0 ∷ drop 2 l
+two-front l h = drop-cons l 0 0 (omega arith) ∙ ap (λ (t : List ℕ). getD l 0 0 ∷ t) (drop-cons l 1 0 h)
 
 zeros-of : (l : List ℕ) → allZero l ≡ true → l ≡ zeros (length l)
 zeros-of [] h = refl
@@ -152,28 +125,19 @@ unless-flag : (flag test : Bool) → (flag || test) ≡ true → flag ≡ false 
 unless-flag true test h e = clash true refl e
 unless-flag false test h e = h
 
+or-zeros : (flag : Bool) (l : List ℕ) (n : ℕ) → (flag ≡ false → l ≡ zeros n) → (flag || allZero l) ≡ true
+or-zeros true l n h = refl
+or-zeros false l n h = rw (h refl) (allZero-zeros n)
+
 -- ---- a record
 
 module _ (r : List ℕ) (b : AreBytes r) (h : wellFormed r ≡ true) where
   v : ValidRecord r
   v = valid-record r h
 
-  long : 36 ≤ length r
-  long = let e = v .record-length in omega arith
-
-  zero-parts : ((requireConfidentiality (flagsOf r) || allZero (ivOf r)) ≡ true) × ((requireIntegrity (flagsOf r) || allZero (tagOf r)) ≡ true)
-  unfolding wellFormed
-  zero-parts =
-      let a = both (eqb (metadataSizeOf r) 20) _ h in
-      let c = both (eqb (revisionOf r) 1) _ (a .1) in
-      let d = both (validFlags (flagsOf r)) _ (c .1) in
-      let e = both (leb (dataSizeOf r) 480) _ (d .1) in
-      let f = both (eqb (length r) (dataSizeOf r + 36)) _ (e .1) in
-      both _ _ (f .1)
-
   behind : drop 12 r ≡ ivOf r ++ (storedDataOf r ++ tagOf r)
   behind =
-      let z = long in
+      let z = valid-long r v in
       let e : 20 + (length r - 36) ≡ length r - 16 = omega arith in
       sym (take-append-drop 8 (drop 12 r))
       ∙ ap (λ (x : List ℕ). ivOf r ++ x) (drop-drop 8 12 r ∙ sym (take-append-drop (length r - 36) (drop 20 r))
@@ -181,25 +145,14 @@ module _ (r : List ℕ) (b : AreBytes r) (h : wellFormed r ≡ true) where
 
   record-layout : r ≡ recordBytes (dataSizeOf r) (flagsOf r) (ivOf r) (storedDataOf r) (tagOf r)
   record-layout =
-      let z = long in
+      let z = valid-long r v in
       let m = v .metadata-size in
       let n = v .of-revision in
-      let e0 : getD r 0 0 ≡ 0x14 = omega arith in
-      let e1 : getD r 1 0 ≡ 0x00 = omega arith in
-      let e2 : getD r 2 0 ≡ 0x01 = omega arith in
-      let e3 : getD r 3 0 ≡ 0x00 = omega arith in
-      let p = sym (four-bytes (getD r 4 0) (getD r 5 0) (getD r 6 0) (getD r 7 0) (b 4) (b 5) (b 6) (b 7)) in
-      let q = sym (four-bytes (getD r 8 0) (getD r 9 0) (getD r 10 0) (getD r 11 0) (b 8) (b 9) (b 10) (b 11)) in
-      front-drop 12 0 r (omega arith) ∙ (λ i. e0 i ∷ e1 i ∷ e2 i ∷ e3 i ∷ (p i ++ (q i ++ behind i)))
-
-  iv-size : length (ivOf r) ≡ 8
-  iv-size = let z = long in length-take-le 8 (drop 12 r) (rw (length-drop 12 r) (omega arith))
-
-  stored-size : length (storedDataOf r) ≡ dataSizeOf r
-  stored-size = let z = v .record-length in length-take-le (length r - 36) (drop 20 r) (rw (length-drop 20 r) (omega arith)) ∙ omega arith
-
-  tag-size : length (tagOf r) ≡ 16
-  tag-size = let z = long in length-drop (length r - 16) r ∙ omega arith
+      let o = number-part 2 0 r b (omega arith) ∙ ap (λ (x : ℕ). leBytes 2 x ++ drop 2 r) m in
+      let p = number-part 2 2 r b (omega arith) ∙ ap (λ (x : ℕ). leBytes 2 x ++ drop 4 r) n in
+      let q = number-part 4 4 r b (omega arith) in
+      let s = number-part 4 8 r b (omega arith) ∙ ap (λ (x : List ℕ). leBytes 4 (flagsOf r) ++ x) behind in
+      o ∙ ap (λ (x : List ℕ). leBytes 2 20 ++ x) (p ∙ ap (λ (x : List ℕ). leBytes 2 1 ++ x) (q ∙ ap (λ (x : List ℕ). leBytes 4 (dataSizeOf r) ++ x) s))
 
   well-formed : WellFormed r
   well-formed = record {
@@ -211,79 +164,68 @@ module _ (r : List ℕ) (b : AreBytes r) (h : wellFormed r ≡ true) where
     layout = record-layout;
     size-bound = v .data-size;
     flags-good = good-shape (flagsOf r) .0 (v .flags);
-    iv-length = iv-size;
-    stored-length = stored-size;
-    tag-length = tag-size;
-    iv-zero = λ e. zeros-long (ivOf r) 8 (unless-flag _ _ (zero-parts .0) e) iv-size;
-    tag-zero = λ e. zeros-long (tagOf r) 16 (unless-flag _ _ (zero-parts .1) e) tag-size;
+    iv-length = valid-iv-length r v;
+    stored-length = valid-stored-length r v;
+    tag-length = valid-tag-length r v;
+    iv-zero = λ e. zeros-long (ivOf r) 8 (unless-flag _ _ (v .iv-zero) e) (valid-iv-length r v);
+    tag-zero = λ e. zeros-long (tagOf r) 16 (unless-flag _ _ (v .tag-zero) e) (valid-tag-length r v);
   }
 
-module _ (size flags : ℕ) (iv stored tag : List ℕ) (s : size ≤ 480) (g : GoodFlags flags) (a : length iv ≡ 8) (d : length stored ≡ size) (t : length tag ≡ 16) where
-  abbrev laid : List ℕ
-  laid = recordBytes size flags iv stored tag
-
-  flags-ok : validFlags flags ≡ true
-  flags-ok = good-shape flags .1 g
-
-  laid-size : dataSizeOf laid ≡ size
-  laid-size = le-value 4 size (omega arith)
-
-  laid-flags : flagsOf laid ≡ flags
-  laid-flags = let h = valid-flags-small flags flags-ok in le-value 4 flags (omega arith)
-
-  laid-iv : ivOf laid ≡ iv
-  laid-iv = take-at iv (stored ++ tag) 8 a
-
-  laid-length : length laid ≡ size + 36
-  laid-length =
-      let p = length-append iv (stored ++ tag) in
-      let q = length-append stored tag in
-      omega arith
-
+module _ (r : List ℕ) (w : WellFormed r) where
   abbrev meta : List ℕ
-  meta = metadataBytes size flags iv
+  meta = metadataBytes (w .size) (w .flags) (w .iv)
+
+  abbrev laid : List ℕ
+  laid = recordBytes (w .size) (w .flags) (w .iv) (w .stored) (w .tag)
+
+  flags-valid : validFlags (w .flags) ≡ true
+  flags-valid = good-shape (w .flags) .1 (w .flags-good)
 
   meta-length : length meta ≡ 20
-  meta-length = omega arith
+  meta-length = let e = w .iv-length in omega arith
 
-  laid-meta : metadataOf laid ≡ meta
-  laid-meta = take-at meta (stored ++ tag) 20 meta-length
+  laid-length : length laid ≡ w .size + 36
+  laid-length = joined-length meta (w .stored) (w .tag) meta-length (w .tag-length) ∙ rw (w .stored-length)
 
-  laid-stored : storedDataOf laid ≡ stored
-  laid-stored =
-      let e : length laid - 36 ≡ size = let l = laid-length in omega arith in
-      ap (λ (n : ℕ). take n (drop 20 laid)) e ∙ ap (take size) (drop-at meta (stored ++ tag) 20 meta-length) ∙ take-at stored tag size d
+  laid-size : dataSizeOf laid ≡ w .size
+  laid-size = let h = w .size-bound in le-value 4 (w .size) (omega arith)
 
-  laid-tag : tagOf laid ≡ tag
-  laid-tag =
-      let e : length laid - 16 ≡ size + 20 = let l = laid-length in omega arith in
-      let k : length (meta ++ stored) ≡ size + 20 = let p = length-append meta stored in let m = meta-length in omega arith in
-      ap (λ (n : ℕ). drop n laid) e ∙ ap (drop (size + 20)) (sym (append-assoc meta stored tag)) ∙ drop-at (meta ++ stored) tag (size + 20) k
+  laid-flags : flagsOf laid ≡ w .flags
+  laid-flags = let h = valid-flags-small (w .flags) flags-valid in le-value 4 (w .flags) (omega arith)
 
-  laid-valid : (requireConfidentiality flags ≡ false → iv ≡ zeros 8) → (requireIntegrity flags ≡ false → tag ≡ zeros 16) → wellFormed laid ≡ true
+  laid-iv : ivOf laid ≡ w .iv
+  laid-iv = take-at (w .iv) (w .stored ++ w .tag) 8 (w .iv-length)
+
+  laid-metadata : metadataOf laid ≡ meta
+  laid-metadata = joined-metadata meta (w .stored) (w .tag) meta-length (w .tag-length)
+
+  laid-stored : storedDataOf laid ≡ w .stored
+  laid-stored = joined-stored meta (w .stored) (w .tag) meta-length (w .tag-length)
+
+  laid-tag : tagOf laid ≡ w .tag
+  laid-tag = joined-tag meta (w .stored) (w .tag) meta-length (w .tag-length)
+
+  laid-valid : wellFormed laid ≡ true
   unfolding wellFormed
-  laid-valid i j =
-      let p : (requireConfidentiality flags || allZero iv) ≡ true = split (requireConfidentiality flags) (λ e. rw e) (λ e. rw (e, i e)) in
-      let q : (requireIntegrity flags || allZero tag) ≡ true = split (requireIntegrity flags) (λ e. rw e) (λ e. rw (e, j e)) in
-      rw (laid-tag, laid-iv, laid-flags, laid-size, laid-length, flags-ok, le-leb size 480 s, eq-eqb (size + 36) (size + 36) refl, p) q
+  laid-valid =
+      let n = w .size in
+      let iv-ok : (requireConfidentiality (w .flags) || allZero (w .iv)) ≡ true = or-zeros _ (w .iv) 8 (w .iv-zero) in
+      let tag-ok : (requireIntegrity (w .flags) || allZero (w .tag)) ≡ true = or-zeros _ (w .tag) 16 (w .tag-zero) in
+      let small = le-leb n 480 (w .size-bound) in
+      rw (laid-tag, laid-iv, laid-flags, laid-size, laid-length, flags-valid, small, eq-eqb (n + 36) (n + 36) refl, iv-ok) tag-ok
 
 valid-of : (r : List ℕ) → WellFormed r → wellFormed r ≡ true
-valid-of r w = rw (w .layout)
-    (laid-valid (w .size) (w .flags) (w .iv) (w .stored) (w .tag) (w .size-bound) (w .flags-good) (w .iv-length) (w .stored-length) (w .tag-length) (w .iv-zero) (w .tag-zero))
+valid-of r w = rw (w .layout) (laid-valid r w)
 
 record-parts : (r : List ℕ) (w : WellFormed r) → RecordParts r w
-record-parts r w =
-    let e = w .layout in
-    let n = w .size in
-    let f = w .flags in
-    record {
-      size = ap dataSizeOf e ∙ laid-size n f (w .iv) (w .stored) (w .tag) (w .size-bound) (w .flags-good) (w .iv-length) (w .stored-length) (w .tag-length);
-      flags = ap flagsOf e ∙ laid-flags n f (w .iv) (w .stored) (w .tag) (w .size-bound) (w .flags-good) (w .iv-length) (w .stored-length) (w .tag-length);
-      iv = ap ivOf e ∙ laid-iv n f (w .iv) (w .stored) (w .tag) (w .size-bound) (w .flags-good) (w .iv-length) (w .stored-length) (w .tag-length);
-      metadata = ap metadataOf e ∙ laid-meta n f (w .iv) (w .stored) (w .tag) (w .size-bound) (w .flags-good) (w .iv-length) (w .stored-length) (w .tag-length);
-      stored = ap storedDataOf e ∙ laid-stored n f (w .iv) (w .stored) (w .tag) (w .size-bound) (w .flags-good) (w .iv-length) (w .stored-length) (w .tag-length);
-      tag = ap tagOf e ∙ laid-tag n f (w .iv) (w .stored) (w .tag) (w .size-bound) (w .flags-good) (w .iv-length) (w .stored-length) (w .tag-length);
-    }
+record-parts r w = record {
+  size = ap dataSizeOf (w .layout) ∙ laid-size r w;
+  flags = ap flagsOf (w .layout) ∙ laid-flags r w;
+  iv = ap ivOf (w .layout) ∙ laid-iv r w;
+  metadata = ap metadataOf (w .layout) ∙ laid-metadata r w;
+  stored = ap storedDataOf (w .layout) ∙ laid-stored r w;
+  tag = ap tagOf (w .layout) ∙ laid-tag r w;
+}
 
 record-shape : (r : List ℕ) → RecordShape r
 record-shape r = record { valid = λ b. (well-formed r b, valid-of r); parts = record-parts r }
@@ -296,15 +238,6 @@ module _ (F : Format) (L : FormatLaws F) (s : List ℕ) (z : length s ≡ F .slo
 
   abbrev gap : ℕ
   gap = F .payloadOffset - (F .nameOffset + nameLength s)
-
-  filled : (allZero (take gap (drop (F .nameOffset + nameLength s) s)) ≡ true) × (allZero (drop (F .payloadOffset + F .payloadLength s) s) ≡ true)
-  unfolding slotUsed
-  filled =
-      let a = both (eqb (stateByte s) 1) _ h in
-      let b = both (leb (nameLength s) 64) _ (a .1) in
-      let c = both (validName (slotName F s)) _ (b .1) in
-      let d = both (leb (F .payloadLength s) (payloadSize F)) _ (c .1) in
-      both _ _ (d .1)
 
   name-size : length (slotName F s) ≡ nameLength s
   name-size =
@@ -326,14 +259,14 @@ module _ (F : Format) (L : FormatLaws F) (s : List ℕ) (z : length s ≡ F .slo
       let c = u .name-length in
       let n = name-size in
       let k : gap ≤ length (drop (F .nameOffset + nameLength s) s) = rw (length-drop (F .nameOffset + nameLength s) s) (omega arith) in
-      zeros-long _ (64 - length (slotName F s)) (filled .0) (length-take-le gap (drop (F .nameOffset + nameLength s) s) k ∙ omega arith)
+      zeros-long _ (64 - length (slotName F s)) (u .name-fill) (length-take-le gap (drop (F .nameOffset + nameLength s) s) k ∙ omega arith)
 
   payload-fill : drop (F .payloadOffset + F .payloadLength s) s ≡ zeros (payloadSize F - length (slotPayload F s))
   payload-fill =
       let b = L .total in
       let c = u .payload-length in
       let n = payload-size in
-      zeros-long _ (payloadSize F - length (slotPayload F s)) (filled .1) (length-drop (F .payloadOffset + F .payloadLength s) s ∙ omega arith)
+      zeros-long _ (payloadSize F - length (slotPayload F s)) (u .payload-fill) (length-drop (F .payloadOffset + F .payloadLength s) s ∙ omega arith)
 
   payload-part : drop (F .payloadOffset) s ≡ zeroFill (payloadSize F) (slotPayload F s)
   payload-part =
@@ -360,13 +293,13 @@ used-place s z b h =
     let w = u kvFormat kv-laws s z h in
     let n = name-size kvFormat kv-laws s z h in
     let p = payload-size kvFormat kv-laws s z h in
-    let q = sym (two-bytes (getD s 2 0) (getD s 3 0) (b 2) (b 3)) ∙ ap (leBytes 2) (sym p) in
+    let q = number-part 2 2 s b (omega arith) ∙ λ i. leBytes 2 (sym p i) ++ body kvFormat kv-laws s z h i in
     record {
       name = slotName kvFormat s;
       payload = slotPayload kvFormat s;
       name-valid = w .name;
       payload-length = let k = w .payload-length in omega arith;
-      layout = front-drop 4 0 s (omega arith) ∙ (λ i. w .state i ∷ sym n i ∷ (q i ++ body kvFormat kv-laws s z h i));
+      layout = two-front s (omega arith) ∙ (λ i. w .state i ∷ sym n i ∷ q i);
     }
 
 used-entry : (s : List ℕ) → length s ≡ 82 → slotUsed rbpFormat s ≡ true → UsedEntry s
@@ -381,20 +314,10 @@ used-entry s z h =
       payload = slotPayload rbpFormat s;
       name-valid = w .name;
       payload-length = p;
-      layout = front-drop 2 0 s (omega arith) ∙ (λ i. w .state i ∷ sym n i ∷ e i);
+      layout = two-front s (omega arith) ∙ (λ i. w .state i ∷ sym n i ∷ e i);
     }
 
 -- a used slot is a made one
-made-place : (s : List ℕ) (w : UsedPlace s) → makeSlot kvFormat (w .name) (w .payload) ≡ s
-unfolding makeSlot
-made-place s w = sym (w .layout)
-
-made-entry : (s : List ℕ) (w : UsedEntry s) → makeSlot rbpFormat (w .name) (w .payload) ≡ s
-unfolding makeSlot
-made-entry s w =
-    let q : w .payload ++ zeros (16 - length (w .payload)) ≡ w .payload = rw (w .payload-length) (append-nil (w .payload)) in
-    (λ i. 1 ∷ length (w .name) ∷ (zeroFill 64 (w .name) ++ q i)) ∙ sym (w .layout)
-
 module _ (F : Format) (L : FormatLaws F) (s n p : List ℕ) (v : validName n ≡ true) (f : Fits F p) (e : makeSlot F n p ≡ s) where
   used-of : slotUsed F s ≡ true
   used-of = rw e at (made-used F L n p v f)
@@ -402,12 +325,42 @@ module _ (F : Format) (L : FormatLaws F) (s n p : List ℕ) (v : validName n ≡
   parts-of : (slotHolder F s ≡ some n) × (slotPayload F s ≡ p)
   parts-of = (rw e at (made-holder F L n p v f), rw e at (made-payload F L n p v f))
 
+module _ (s : List ℕ) (w : UsedPlace s) where
+  place-fits : Fits kvFormat (w .payload)
+  place-fits = kv-fits (w .payload) (w .payload-length)
+
+  made-place : makeSlot kvFormat (w .name) (w .payload) ≡ s
+  unfolding makeSlot
+  made-place = sym (w .layout)
+
+  place-used : slotUsed kvFormat s ≡ true
+  place-used = used-of kvFormat kv-laws s (w .name) (w .payload) (w .name-valid) place-fits made-place
+
+  place-parts : (slotHolder kvFormat s ≡ some (w .name)) × (slotPayload kvFormat s ≡ w .payload)
+  place-parts = parts-of kvFormat kv-laws s (w .name) (w .payload) (w .name-valid) place-fits made-place
+
+module _ (s : List ℕ) (w : UsedEntry s) where
+  entry-fits : Fits rbpFormat (w .payload)
+  entry-fits = rbp-fits (w .payload) (w .payload-length)
+
+  made-entry : makeSlot rbpFormat (w .name) (w .payload) ≡ s
+  unfolding makeSlot
+  made-entry =
+      let q : w .payload ++ zeros (16 - length (w .payload)) ≡ w .payload = rw (w .payload-length) (append-nil (w .payload)) in
+      (λ i. 1 ∷ length (w .name) ∷ (zeroFill 64 (w .name) ++ q i)) ∙ sym (w .layout)
+
+  entry-used : slotUsed rbpFormat s ≡ true
+  entry-used = used-of rbpFormat rbp-laws s (w .name) (w .payload) (w .name-valid) entry-fits made-entry
+
+  entry-parts : (slotHolder rbpFormat s ≡ some (w .name)) × (slotPayload rbpFormat s ≡ w .payload)
+  entry-parts = parts-of rbpFormat rbp-laws s (w .name) (w .payload) (w .name-valid) entry-fits made-entry
+
 slot-shape : SlotShape
 slot-shape = record {
-  kv = λ s z b. (used-place s z b, λ w. used-of kvFormat kv-laws s (w .name) (w .payload) (w .name-valid) (kv-fits (w .payload) (w .payload-length)) (made-place s w));
-  rbp = λ s z. (used-entry s z, λ w. used-of rbpFormat rbp-laws s (w .name) (w .payload) (w .name-valid) (rbp-fits (w .payload) (w .payload-length)) (made-entry s w));
-  kv-parts = λ s w. parts-of kvFormat kv-laws s (w .name) (w .payload) (w .name-valid) (kv-fits (w .payload) (w .payload-length)) (made-place s w);
-  rbp-parts = λ s w. parts-of rbpFormat rbp-laws s (w .name) (w .payload) (w .name-valid) (rbp-fits (w .payload) (w .payload-length)) (made-entry s w);
+  kv = λ s z b. (used-place s z b, place-used s);
+  rbp = λ s z. (used-entry s z, entry-used s);
+  kv-parts = place-parts;
+  rbp-parts = entry-parts;
 }
 
 free-shape : (slot : List ℕ) → (slotFree slot ≡ true) ↔ (slot ≡ zeros (length slot))
@@ -415,16 +368,15 @@ unfolding slotFree
 free-shape s = (zeros-of s, λ e. rw e (allZero-zeros (length s)))
 
 held-shape : (o : Option (List ℕ)) → (isSome o ≡ false) ↔ (o ≡ none)
-held-shape none = (λ h. refl, λ h. refl)
-held-shape (some r) = (λ h. clash true refl h, λ h. clashO (some r) h refl)
+held-shape o = (not-some o, λ h. rw h)
 
 pub shapes-hold : Shapes
 shapes-hold = record {
   of-name = name-shape;
   of-prefix = prefix-shape;
   of-flags = flag-shape;
-  of-kv-length = λ area. (kv-sized area, sized-kv area);
-  of-rbp-length = λ area. (rbp-sized area, sized-rbp area);
+  of-kv-length = λ area. (sized-multiple kvFormat kv-laws area, multiple-sized kvFormat kv-laws area);
+  of-rbp-length = λ area. (sized-multiple rbpFormat rbp-laws area, multiple-sized rbpFormat rbp-laws area);
   of-record = record-shape;
   of-mac = λ key name r. (mac-eq key name r, eq-mac key name r);
   of-copy = λ tag r. (match-eq tag r, eq-match tag r);

@@ -6,14 +6,15 @@ use mathlib.Core.Option.{some}
 use Prim.Native.Nat.{ℕ, _+_, _-_, _≤_, _<_}
 use native.Mathlib.Omega.{arith}
 use borrow.Author.Tests.{eqb-true, leb-true, le-leb, ne-eqb}
-use lib.Dec.{eqb, lit<}
-use lib.ListN.{length, drop, length-append}
+use lib.Dec.{lit<}
+use lib.ListN.{length, take, drop, length-append}
 use lib.Seq.{take-at, drop-at, drop-drop, drop-append-seam, take-append-seam}
-use Rattle.spec.specs.Bytes.{allZero, zeros, zeroFill}
+use Rattle.buffers.specs.Bytes.{allZero, zeros, zeroFill}
 use Rattle.spec.specs.Name.{validName}
-use Rattle.spec.specs.Area.{Format, kvFormat, rbpFormat, stateByte, nameLength, slotFree, payloadSize, slotName, slotPayload, slotUsed, slotValid, slotHolder, makeSlot}
-use Rattle.spec.proofs.Split.{split, both}
-use Rattle.spec.proofs.Bytes.{allZero-zeros, length-zeros, length-zeroFill, take-zeroFill, drop-zeroFill, le-value}
+use Rattle.spec.specs.Area.{Format, kvFormat, rbpFormat, stateByte, nameLength, slotFree, payloadSize}
+use Rattle.spec.specs.Area.{slotName, slotPayload, slotUsed, slotValid, slotHolder, makeSlot}
+use Rattle.buffers.proofs.Split.{both}
+use Rattle.buffers.proofs.Bytes.{allZero-zeros, length-zeros, length-zeroFill, take-zeroFill, drop-zeroFill, le-value}
 use Rattle.spec.proofs.Name.{valid-length}
 
 -- What a format has to obey.
@@ -56,10 +57,14 @@ kv-fits p h = record { told = λ n l. le-value 2 (length p) (omega arith); size 
 pub rbp-fits : (p : List ℕ) → length p ≡ 16 → Fits rbpFormat p
 rbp-fits p h = record { told = λ n l. sym h; size = omega arith }
 
-pub not-free : (s : List ℕ) → stateByte s ≡ 1 → slotFree s ≡ false
+-- a slot with a state is not free
+pub state-not-free : (s : List ℕ) → (stateByte s ≡ 0 → ⊥) → slotFree s ≡ false
 unfolding slotFree
-not-free [] h = absurd (omega arith)
-not-free (x ∷ s) h = rw (ne-eqb x 0 (λ z. omega arith))
+state-not-free [] h = absurd (h refl)
+state-not-free (x ∷ s) h = rw (ne-eqb x 0 h)
+
+pub not-free : (s : List ℕ) → stateByte s ≡ 1 → slotFree s ≡ false
+not-free s h = state-not-free s (λ z. omega arith)
 
 pub blank-free : (k : ℕ) → slotFree (zeros k) ≡ true
 unfolding slotFree
@@ -144,6 +149,8 @@ pub record UsedSlot (F : Format) (s : List ℕ) : Type 0 where
   pub name-length : nameLength s ≤ 64
   pub name : validName (slotName F s) ≡ true
   pub payload-length : F .payloadLength s ≤ payloadSize F
+  pub name-fill : allZero (take (F .payloadOffset - (F .nameOffset + nameLength s)) (drop (F .nameOffset + nameLength s) s)) ≡ true
+  pub payload-fill : allZero (drop (F .payloadOffset + F .payloadLength s) s) ≡ true
 
 pub used-slot : (F : Format) (s : List ℕ) → slotUsed F s ≡ true → UsedSlot F s
 unfolding slotUsed
@@ -152,21 +159,12 @@ used-slot F s h =
     let b = both _ _ (a .1) in
     let c = both _ _ (b .1) in
     let d = both _ _ (c .1) in
+    let e = both _ _ (d .1) in
     record {
       state = eqb-true (stateByte s) 1 (a .0);
       name-length = leb-true (nameLength s) 64 (b .0);
       name = c .0;
       payload-length = leb-true (F .payloadLength s) (payloadSize F) (d .0);
+      name-fill = e .0;
+      payload-fill = e .1;
     }
-
-free-state : (s : List ℕ) → slotFree s ≡ true → stateByte s ≡ 0
-unfolding slotFree
-free-state [] h = refl
-free-state (x ∷ s) h = eqb-true x 0 (both (eqb x 0) (allZero s) h .0)
-
--- in a slot that is well shaped the state byte tells whether it is free
-pub valid-state : (F : Format) (s : List ℕ) → slotValid F s ≡ true → slotFree s ≡ eqb (stateByte s) 0
-unfolding slotValid
-valid-state F s h = split (slotFree s)
-    (λ e. rw (e, free-state s e))
-    (λ e. rw (e, used-slot F s (rw e at h) .state))

@@ -6,9 +6,9 @@ use mathlib.Core.List.{List, [], _∷_, _++_, map}
 use Prim.Native.Nat.{ℕ}
 use borrow.Author.Tests.{eqb-true, eqb-false, ne-eqb}
 use lib.Dec.{eqb}
-use Rattle.spec.specs.Bytes.{every}
+use Rattle.buffers.specs.Bytes.{every}
 use Rattle.spec.specs.Status.{ok, isListed, isOk, Test, _when_, refuseIf, firstOf, onOk}
-use Rattle.spec.proofs.Split.{split, both, not-true-is}
+use Rattle.buffers.proofs.Split.{split, both, not-true-is}
 
 abbrev pub number : Test → ℕ
 number (n when failed) = n
@@ -79,3 +79,16 @@ on-ok status a b h = rw h
 -- a status is 0 or not
 pub by-status : {P : Type 0} (status : ℕ) → (status ≡ ok → P) → (status ≢ ok → P) → P
 by-status status f g = split (isOk status) (λ e. f (eqb-true status ok e)) (λ e. g (eqb-false status ok e))
+
+-- of two lists in order: the first, where it says so; else the second
+pub stops : (l m : List Test) → firstOf l ≢ ok → firstOf (l ++ m) ≡ firstOf l
+unfolding refuseIf
+stops [] m h = absurd (h refl)
+stops ((n when true) ∷ l) m h = refl
+stops ((n when false) ∷ l) m h = stops l m h
+
+pub passes : (l m : List Test) → every nonzero (map number l) ≡ true → firstOf l ≡ ok → firstOf (l ++ m) ≡ firstOf m
+passes l m z h = past l m (all-passed l z h)
+
+pub first-passed : (l m : List Test) → every nonzero (map number (l ++ m)) ≡ true → firstOf (l ++ m) ≡ ok → firstOf l ≡ ok
+first-passed l m z h = passed-all l (passed-split l m (all-passed (l ++ m) z h) .0)

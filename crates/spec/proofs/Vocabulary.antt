@@ -2,24 +2,26 @@
 use mathlib.Core.Path.{_≡_, refl, sym, ap, _∙_}
 use mathlib.Core.Logic.{inl, inr}
 use mathlib.Core.Bool.{true, false}
-use mathlib.Core.List.{List, [], _∷_, _++_, flatten, List·Memᴰ, List·Memᴰ·head, List·Memᴰ·tail, List·Memᴰ·not-nil, List·Memᴰ·cases-cons, Memᴰ·cast}
+use mathlib.Core.List.{List, [], _∷_, _++_, flatten, List·Memᴰ, List·Memᴰ·head, List·Memᴰ·tail, List·Memᴰ·cases-cons, Memᴰ·cast}
 use mathlib.Core.Option.{Option, some}
-use Prim.Native.Nat.{ℕ, zero, suc, _+_, _*_, _/_, _%_, _^_, _≤_, _<_}
-use native.Mathlib.Nat.{not-suc-le-zero, le-of-suc-le-suc, pow-succ', div-div-eq-div-mul, mul-div-cancel}
+use Prim.Native.Nat.{ℕ, zero, suc, _+_, _*_, _≤_, _<_}
+use native.Mathlib.Nat.{not-suc-le-zero, le-of-suc-le-suc, mul-div-cancel}
 use native.Mathlib.Omega.{arith}
 use borrow.Author.Tests.{eqb-true, eqb-false, leb-true}
 use lib.Dec.{eqb, leb}
 use lib.ListN.{length, getD, take, drop}
-use Rattle.spec.specs.Bytes.{every, any, leBytes, u16At, u32At}
+use Rattle.buffers.specs.Bytes.{every, any}
 use Rattle.spec.specs.Status.{statusTable, isListed, refuseIf}
 use Rattle.spec.specs.Name.{Name}
-use Rattle.spec.specs.Slots.{joinSlots, member, dedup, namesBy}
+use Rattle.spec.specs.Slots.{joinSlots, member, dedup, namesBy, firstIndex}
 use Rattle.spec.specs.Area.{Format, kvFormat, rbpFormat, slotHolder, slotCount, slots, names}
 use Rattle.spec.specs.Interleaving.{Outcome}
-use Rattle.spec.specs.Vocabulary.{TestLaws, ByteLaws, NumberLaws, DedupLaws, SlotLaws, RunLaws, MergeLaws, Vocabulary}
-use Rattle.spec.proofs.Split.{split, splitO, clash, both}
-use Rattle.spec.proofs.Bytes.{bytesEq-eq, eq-bytesEq, le-value, length-leBytes, in-member, dedup-in}
-use Rattle.spec.proofs.Chunks.{length-chunks, chunk-at, join-chunks}
+use Rattle.spec.specs.Vocabulary.{TestLaws, DedupLaws, SlotLaws, RunLaws, MergeLaws, Vocabulary}
+use Rattle.buffers.proofs.Split.{split, clash, both}
+use Rattle.spec.proofs.NameLists.{member-in, in-member, dedup-in}
+use Rattle.spec.proofs.Slots.{held, held-at, at-held, member-any}
+use Rattle.spec.proofs.First.{any-at, first-below, first-passes}
+use Rattle.spec.proofs.Chunks.{slots-length, slot-at, slots-joined}
 
 -- ---- statuses
 
@@ -47,29 +49,11 @@ test-laws = record {
   passes = λ n rest. refl;
 }
 
--- ---- bytes
-
 module _ {A : Type 0} where
   getD-in : (l : List A) (i : ℕ) (d : A) → i < length l → List·Memᴰ (getD l i d) l
   getD-in [] i d h = absurd (not-suc-le-zero h)
   getD-in (x ∷ l) zero d h = List·Memᴰ·head refl
   getD-in (x ∷ l) (suc i) d h = List·Memᴰ·tail (getD-in l i d (le-of-suc-le-suc h))
-
-byte-laws : ByteLaws
-byte-laws = record { equal = λ a b. (bytesEq-eq a b, eq-bytesEq a b); fill = λ n. refl }
-
--- ---- numbers
-
-digit-at : (k n i : ℕ) → i < k → getD (leBytes k n) i 0 ≡ n / 256 ^ i % 256
-digit-at zero n i h = absurd (not-suc-le-zero h)
-digit-at (suc k) n zero h = omega arith
-digit-at (suc k) n (suc i) h = rw (pow-succ', ← div-div-eq-div-mul) (digit-at k (n / 256) i (le-of-suc-le-suc h))
-
-four-at : (l : List ℕ) (i : ℕ) → u32At l i ≡ u16At l i + 65536 * u16At l (i + 2)
-four-at l i = let e : i + 2 + 1 ≡ i + 3 = omega arith in rw e (omega arith)
-
-number-laws : NumberLaws
-number-laws = record { width = length-leBytes; digit = digit-at; value = le-value; two = λ l i. omega arith; four = four-at }
 
 -- ---- names
 
@@ -110,50 +94,38 @@ module _ {S : Type 0} (at : S → Option Name) (d : S) (n : Name) where
   abbrev At : List S → Type 0
   At ss = (i : ℕ) × (i < length ss) × (at (getD ss i d) ≡ some n)
 
-  later : (s : S) (ss : List S) → At ss → At (s ∷ ss)
-  later s ss (i, h, e) = (suc i, omega arith, e)
-
   name-at : (ss : List S) → List·Memᴰ n (namesBy at ss) → At ss
-  name-at [] m = absurd (List·Memᴰ·not-nil m)
-  name-at (s ∷ ss) m = splitO (at s)
-      (λ e. later s ss (name-at ss (rw e at m)))
-      (λ x e. elim (List·Memᴰ·cases-cons (rw e at m)) [ inl p ↦ (0, omega arith, rw p e) | inr k ↦ later s ss (name-at ss k) ])
+  name-at ss m =
+      let a = sym (member-any at n ss) ∙ in-member n (namesBy at ss) m in
+      (firstIndex (held at n) ss, first-below (held at n) ss a, held-at at n _ (first-passes (held at n) ss d a))
 
   at-name : (ss : List S) (i : ℕ) → i < length ss → at (getD ss i d) ≡ some n → List·Memᴰ n (namesBy at ss)
-  at-name [] i h e = absurd (not-suc-le-zero h)
-  at-name (s ∷ ss) zero h e = rw e (List·Memᴰ·head refl)
-  at-name (s ∷ ss) (suc i) h e = let m = at-name ss i (le-of-suc-le-suc h) e in splitO (at s) (λ z. rw z m) (λ x z. rw z (List·Memᴰ·tail m))
+  at-name ss i h e = member-in n (namesBy at ss) (member-any at n ss ∙ any-at (held at n) ss d i h (at-held at n _ e))
 
 module _ (F : Format) (positive : 0 < F .slotSize) where
-  slots-all : (area : List ℕ) → length (slots F area) ≡ slotCount F area
-  slots-all area = length-chunks (F .slotSize) (slotCount F area) area
-
-  slot-at : (area : List ℕ) (i : ℕ) → i < slotCount F area → getD (slots F area) i [] ≡ take (F .slotSize) (drop (i * F .slotSize) area)
-  slot-at area i h = chunk-at (F .slotSize) (slotCount F area) i area h
-
-  slots-joined : (area : List ℕ) (k : ℕ) → length area ≡ k * F .slotSize → flatten (slots F area) ≡ area
-  slots-joined area k h =
+  flattened : (area : List ℕ) (k : ℕ) → length area ≡ k * F .slotSize → flatten (slots F area) ≡ area
+  flattened area k h =
       let e : slotCount F area ≡ k = rw h (mul-div-cancel k positive) in
-      flatten-join (slots F area) ∙ join-chunks (F .slotSize) (slotCount F area) area (rw e h)
+      flatten-join (slots F area) ∙ slots-joined F area (rw e h)
 
   -- a slot has the name
   abbrev Held : List ℕ → Name → Type 0
   Held area n = (i : ℕ) × (i < slotCount F area) × (slotHolder F (take (F .slotSize) (drop (i * F .slotSize) area)) ≡ some n)
 
-  held-at : (area : List ℕ) (n : Name) → At (slotHolder F) [] n (slots F area) → Held area n
-  held-at area n (i, h, e) = let k = rw slots-all at h in (i, k, rw (slot-at area i k) at e)
+  held-of : (area : List ℕ) (n : Name) → At (slotHolder F) [] n (slots F area) → Held area n
+  held-of area n (i, h, e) = let k = rw (slots-length F area) at h in (i, k, rw (slot-at F area i k) at e)
 
-  at-held : (area : List ℕ) (n : Name) → Held area n → List·Memᴰ n (names F area)
-  at-held area n (i, h, e) = at-name (slotHolder F) [] n (slots F area) i (rw slots-all h) (rw (slot-at area i h) e)
+  of-held : (area : List ℕ) (n : Name) → Held area n → List·Memᴰ n (names F area)
+  of-held area n (i, h, e) = at-name (slotHolder F) [] n (slots F area) i (rw (slots-length F area) h) (rw (slot-at F area i h) e)
 
   slot-laws : SlotLaws F (F .slotSize)
   slot-laws = record {
     size = refl;
     count = λ area. refl;
-    all = slots-all;
-    bytes = slot-at;
-    joined = slots-joined;
-    held = λ area n. ((λ m. held-at area n (name-at (slotHolder F) [] n (slots F area) m)), at-held area n);
+    all = slots-length F;
+    bytes = slot-at F;
+    joined = flattened;
+    held = λ area n. ((λ m. held-of area n (name-at (slotHolder F) [] n (slots F area) m)), of-held area n);
   }
 
 -- ---- runs and merges
@@ -183,8 +155,6 @@ merge-laws A = record {
 pub vocabulary-holds : Vocabulary
 vocabulary-holds = record {
   statuses = test-laws;
-  bytes = byte-laws;
-  numbers = number-laws;
   distinct-names = dedup-laws;
   both = λ kv rbp. refl;
   contents = λ kv rbp name. refl;

@@ -4,14 +4,17 @@ use mathlib.Core.Path.{_≡_, _∙_}
 use mathlib.Core.Logic.{_≢_}
 use mathlib.Core.Bool.{true}
 use mathlib.Core.List.{List, _++_, map}
+use Prim.Native.Nat.{ℕ}
 use lib.ListN.{length}
-use Rattle.spec.specs.Bytes.{every, zeros}
+use Rattle.buffers.specs.Bytes.{every, zeros}
 use Rattle.spec.specs.Status.{ok, Test, firstOf}
+use Rattle.spec.specs.Area.{kvFormat, rbpFormat}
 use Rattle.spec.specs.Request.{Request, World, found, statusOf, run}
 use Rattle.spec.specs.Calls.{Areas, areaLengths, areaDamage}
 use Rattle.spec.specs.Demand2.{Undamaged}
-use Rattle.spec.proofs.Split.{not-false-is}
-use Rattle.spec.proofs.Status.{number, Passed, nonzero, all-passed, passed-all, past, passed-split, on-ok, on-refused}
+use Rattle.buffers.proofs.Split.{not-false-is}
+use Rattle.spec.proofs.Area.{Sound}
+use Rattle.spec.proofs.Status.{number, Passed, nonzero, all-passed, passed-all, past, under, passed-split, on-ok, on-refused}
 
 module _ {State : Type 0} (W : World State) (s : State) (q : Request) where
   pub run-done : statusOf W s q ≡ ok → run W s q ≡ record {
@@ -45,6 +48,17 @@ module _ {State : Type 0} (W : World State) (s : State) (q : Request) where
 
   pub after-refused : statusOf W s q ≢ ok → run W s q .after ≡ s
   after-refused h = on-refused (statusOf W s q) _ s h
+
+-- both areas are undamaged, or each is
+module _ {kv rbp : List ℕ} where
+  pub kv-sound-of : Undamaged kv rbp → Sound kvFormat kv
+  kv-sound-of u = record { size = u .kv-sized; good = u .kv-intact }
+
+  pub rbp-sound-of : Undamaged kv rbp → Sound rbpFormat rbp
+  rbp-sound-of u = record { size = u .rbp-sized; good = u .rbp-intact }
+
+  pub both-sound : Sound kvFormat kv → Sound rbpFormat rbp → Undamaged kv rbp
+  both-sound a b = record { kv-sized = a .size; rbp-sized = b .size; kv-intact = a .good; rbp-intact = b .good }
 
 module _ (s : Areas) where
   abbrev pub Sane : Type 0
@@ -82,8 +96,11 @@ module _ (s : Areas) where
         let c = passed-split (areaDamage s) tests (b .1) in
         record { undamaged = sane-of (a .0) (c .0); lengths = b .0; rest = c .1 }
 
+    -- in areas without damage only the call's own tests are left
+    pub own-tests : Sane → firstOf order ≡ firstOf (early ++ tests)
+    own-tests u =
+        past (areaLengths s) (early ++ (areaDamage s ++ tests)) (lengths-passed u)
+        ∙ under early (areaDamage s ++ tests) tests (past (areaDamage s) tests (damage-passed u))
+
     pub acceptable : Accepted → firstOf order ≡ ok
-    acceptable a =
-        let u = a .undamaged in
-        past (areaLengths s) (early ++ (areaDamage s ++ tests)) (lengths-passed u) ∙ past early (areaDamage s ++ tests) (a .lengths)
-        ∙ past (areaDamage s) tests (damage-passed u) ∙ passed-all tests (a .rest)
+    acceptable a = own-tests (a .undamaged) ∙ past early tests (a .lengths) ∙ passed-all tests (a .rest)

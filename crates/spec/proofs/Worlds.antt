@@ -2,13 +2,13 @@
 use mathlib.Core.Path.{_≡_, sym, _∙_}
 use mathlib.Core.Logic.{_≢_}
 use mathlib.Core.Bool.{Bool, true, false}
-use Rattle.spec.specs.Bytes.{bytesEq}
+use Rattle.buffers.specs.Bytes.{bytesEq}
 use Rattle.spec.specs.Status.{ok}
 use Rattle.spec.specs.Name.{Name}
 use Rattle.spec.specs.Interleaving.{Side}
 use Rattle.spec.specs.Request.{Binding, Effect, Request, World, statusOf, run}
-use Rattle.spec.proofs.Split.{split, clash}
-use Rattle.spec.proofs.Bytes.{bytesEq-eq, bytesEq-refl}
+use Rattle.buffers.proofs.Split.{split, clash}
+use Rattle.buffers.proofs.Bytes.{bytesEq-eq, bytesEq-refl}
 use Rattle.spec.proofs.Area.{editOption}
 use Rattle.spec.proofs.Status.{by-status}
 use Rattle.spec.proofs.World.{after-done, after-refused}
@@ -32,7 +32,8 @@ module _ {State Own Call : Type 0} (W : World State) (M : World Own) (requestOf 
     pub ours : (d : Side) (c : Call) → Allowed d c → mine d ≡ true → Mine (requestOf c .name)
     pub others : (d : Side) (c : Call) → Allowed d c → mine d ≡ false → ¬ Mine (requestOf c .name)
     -- what the first world tests by itself, and its room, make no difference
-    pub same-status : (d : Side) (s : State) (m : Own) (c : Call) → Allowed d c → mine d ≡ true → Ok s → Agree s m → statusOf W s (requestOf c) ≡ statusOf M m (requestOf c)
+    pub same-status : (d : Side) (s : State) (m : Own) (c : Call) → Allowed d c → mine d ≡ true → Ok s → Agree s m
+        → statusOf W s (requestOf c) ≡ statusOf M m (requestOf c)
     -- an accepted request's effect is what it says, and only on its name
     pub keeps : (d : Side) (s : State) (c : Call) → Allowed d c → Ok s → statusOf W s (requestOf c) ≡ ok → Ok (after s c)
     pub own : (d : Side) (s : State) (c : Call) → Allowed d c → Ok s → statusOf W s (requestOf c) ≡ ok

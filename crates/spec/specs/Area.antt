@@ -12,7 +12,7 @@ use mathlib.Core.Option.{Option, none, some}
 use Prim.Native.Nat.{ℕ, _+_, _-_, _*_, _/_}
 use lib.Dec.{eqb, leb}
 use lib.ListN.{length, getD, take, drop}
-use Rattle.spec.specs.Bytes.{every, any, isSome, zeros, allZero, zeroFill, leBytes, u16At}
+use Rattle.buffers.specs.Bytes.{every, any, isSome, zeros, allZero, zeroFill, leBytes, u16At}
 use Rattle.spec.specs.Name.{Name, validName}
 use Rattle.spec.specs.Slots.{chunks, joinSlots, replaceFirst, findFirst, mapOption, distinct, isName, namesBy}
 

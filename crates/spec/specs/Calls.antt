@@ -9,7 +9,7 @@ use mathlib.Core.Option.{Option, none, some}
 use Prim.Native.Nat.{ℕ, suc, _+_}
 use lib.Dec.{leb, ltb}
 use lib.ListN.{length, getD, take, drop}
-use Rattle.spec.specs.Bytes.{bytesEq, zeros}
+use Rattle.buffers.specs.Bytes.{bytesEq, zeros}
 use Rattle.spec.specs.Status.{Test, _when_, firstOf, onOk, Answer, answerOf}
 use Rattle.spec.specs.Name.{Name, validPrefix}
 use Rattle.spec.specs.Record.{requireReplayProtection}

@@ -1,5 +1,6 @@
 -- What a call on a name decides from what the name has, from its arguments and, a set, from room: its tests in 01's order, and what it does and gives.
---   setTests, getTests, removeTests      01's tests from 3 on, with 01's numbers, in 01's order
+--   setTests, getTests, removeTests      01's tests from 3 on, with 01's numbers, in 01's order: of the arguments, of what the name has (setHeld ..),
+--                                        and a set's of room (spaceTests)
 --   setEffect, removeEffect              what a done call does to what the name has
 --   readCount, readOutput                what a get gives of a record
 --   setRequest .. removeRequest          the calls
@@ -10,7 +11,7 @@ use mathlib.Core.Option.{Option, none, some}
 use Prim.Native.Nat.{ℕ, _-_, min}
 use lib.Dec.{eqb, leb}
 use lib.ListN.{length, take, drop}
-use Rattle.spec.specs.Bytes.{isSome, bytesEq}
+use Rattle.buffers.specs.Bytes.{isSome, bytesEq}
 use Rattle.spec.specs.Status.{Test, _when_}
 use Rattle.spec.specs.Name.{Name, validName}
 use Rattle.spec.specs.Record.{writeOnce, requireIntegrity, validFlags, maxDataSize, dataSizeOf, flagsOf, tagOf, wellFormed, sealRecord, macOk, plaintext}
@@ -57,6 +58,17 @@ reading name early tests numbers output lent = record {
   puts = record { kv = false; rbp = false };
 }
 
+-- "Then, where the card holds the name: 8; 7 if the old or the new flags say write once; 9. Where it doesn't: 7 if the new flags say write once and
+-- the chip holds the name."
+unfoldable pub setHeld : ℕ → Binding → List Test
+setHeld flags b =
+    let r = recordOf (b .stored) in
+    (8 when onCard b && not (wellFormed r))
+    ∷ (7 when onCard b && (writeOnce (flagsOf r) || writeOnce flags))
+    ∷ (9 when onCard b && not (eqb flags (flagsOf r)))
+    ∷ (7 when not (onCard b) && (writeOnce flags && inChip b))
+    ∷ []
+
 -- "6 if not on the card; 8; 7 if write once"
 unfoldable pub removeHeld : Option (List ℕ) → List Test
 removeHeld stored =
@@ -85,23 +97,12 @@ module _ (protected : ℕ → Bool) where
       ∷ (10 when protected flags && (not (inChip b) && not (room .rbp)))
       ∷ []
 
-  -- "Then, where the card holds the name: 8; 7 if the old or the new flags say write once; 9. Where it doesn't: 7 if the new flags say write once and
-  -- the chip holds the name."
-  unfoldable pub setHeld : ℕ → Binding → Room → List Test
-  setHeld flags b room =
-      let r = recordOf (b .stored) in
-      (8 when onCard b && not (wellFormed r))
-      ∷ (7 when onCard b && (writeOnce (flagsOf r) || writeOnce flags))
-      ∷ (9 when onCard b && not (eqb flags (flagsOf r)))
-      ∷ (7 when not (onCard b) && (writeOnce flags && inChip b))
-      ∷ spaceTests flags b room
-
   abbrev pub setTests : Name → ℕ → List ℕ → Binding → Room → List Test
   setTests name flags value b room =
       (3 when not (validName name))
       ∷ (4 when not (validFlags flags))
       ∷ (5 when not (leb (length value) maxDataSize))
-      ∷ setHeld flags b room
+      ∷ (setHeld flags b ++ spaceTests flags b room)
 
   -- "the place holds the record; with flag 8 the entry holds its CMAC; nothing else changes"
   unfoldable pub setEffect : List ℕ → Name → ℕ → List ℕ → List ℕ → Effect

@@ -16,7 +16,7 @@ use lib.ListN.{length, getD, take, drop}
 use Rattle.cipher.specs.Cmac.{cmac}
 use Rattle.cipher.specs.Ctr.{ctr}
 use Rattle.cipher.specs.Kdf.{derivedKey, encPrefix, authPrefix}
-use Rattle.spec.specs.Bytes.{isSome, zeros}
+use Rattle.buffers.specs.Bytes.{isSome, zeros}
 use Rattle.spec.specs.Status.{Test, _when_, firstOf, Answer}
 use Rattle.spec.specs.Name.{Name, validName, validPrefix}
 use Rattle.spec.specs.Record.{writeOnce, requireConfidentiality, requireIntegrity, requireReplayProtection, validFlags}

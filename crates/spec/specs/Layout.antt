@@ -4,7 +4,7 @@
 use mathlib.Core.List.{List, _∷_, _++_}
 use Prim.Native.Nat.{ℕ, _-_}
 use lib.ListN.{length}
-use Rattle.spec.specs.Bytes.{zeros, leBytes}
+use Rattle.buffers.specs.Bytes.{zeros, leBytes}
 use Rattle.spec.specs.Name.{Name}
 
 -- metadata size 20 (2 bytes), revision 1 (2), data size (4), flags (4), IV (8)

@@ -1,4 +1,3 @@
-pub mod Bytes
 pub mod Status
 pub mod Name
 pub mod Record

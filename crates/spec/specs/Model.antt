@@ -8,7 +8,7 @@ use mathlib.Core.Bool.{true, cond}
 use mathlib.Core.List.{List, [], _∷_}
 use mathlib.Core.Option.{Option, none, some}
 use Prim.Native.Nat.{ℕ}
-use Rattle.spec.specs.Bytes.{bytesEq}
+use Rattle.buffers.specs.Bytes.{bytesEq}
 use Rattle.spec.specs.Status.{Answer}
 use Rattle.spec.specs.Name.{Name}
 use Rattle.spec.specs.Record.{requireReplayProtection}

@@ -6,7 +6,7 @@ use mathlib.Core.List.{List, [], _∷_, _++_}
 use Prim.Native.Nat.{ℕ, zero, suc, _+_, _/_, _%_}
 use lib.Dec.{leb, ltb}
 use lib.ListN.{length}
-use Rattle.spec.specs.Bytes.{every}
+use Rattle.buffers.specs.Bytes.{every}
 
 abbrev pub Name : Type 0
 Name = List ℕ

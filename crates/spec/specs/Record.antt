@@ -13,7 +13,7 @@ use lib.ListN.{length, take, drop}
 use Rattle.cipher.specs.Cmac.{cmac}
 use Rattle.cipher.specs.Ctr.{ctr}
 use Rattle.cipher.specs.Kdf.{derivedKey, encPrefix, authPrefix}
-use Rattle.spec.specs.Bytes.{bytesEq, zeros, allZero, leBytes, u16At, u32At}
+use Rattle.buffers.specs.Bytes.{bytesEq, zeros, allZero, leBytes, u16At, u32At}
 use Rattle.spec.specs.Name.{Name}
 
 -- Flags: 1 write once, 2 confidentiality, 4 integrity, 8 replay protection

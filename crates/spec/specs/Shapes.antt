@@ -13,7 +13,7 @@ use Prim.Native.Nat.{ℕ, _*_, _/_, _%_, _≤_, _<_}
 use lib.ListN.{length, getD, take, drop}
 use Rattle.cipher.specs.Cmac.{cmac}
 use Rattle.cipher.specs.Kdf.{derivedKey, authPrefix}
-use Rattle.spec.specs.Bytes.{isSome, zeros}
+use Rattle.buffers.specs.Bytes.{isSome, zeros}
 use Rattle.spec.specs.Name.{Name, validName, validPrefix}
 use Rattle.spec.specs.Record.{writeOnce, requireConfidentiality, requireIntegrity, requireReplayProtection, validFlags}
 use Rattle.spec.specs.Record.{dataSizeOf, flagsOf, ivOf, metadataOf, storedDataOf, tagOf, wellFormed, macOk}

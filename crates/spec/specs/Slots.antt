@@ -8,7 +8,7 @@ use mathlib.Core.List.{List, [], _∷_, _++_}
 use mathlib.Core.Option.{Option, none, some}
 use Prim.Native.Nat.{ℕ, zero, suc}
 use lib.ListN.{take, drop}
-use Rattle.spec.specs.Bytes.{any, bytesEq}
+use Rattle.buffers.specs.Bytes.{any, bytesEq}
 use Rattle.spec.specs.Name.{Name}
 
 -- the first k parts of w bytes each

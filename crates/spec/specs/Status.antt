@@ -7,7 +7,7 @@ use mathlib.Core.List.{List, [], _∷_}
 use Prim.Native.Nat.{ℕ}
 use lib.Dec.{eqb}
 use lib.ListN.{length}
-use Rattle.spec.specs.Bytes.{any, zeros}
+use Rattle.buffers.specs.Bytes.{any, zeros}
 
 abbrev pub ok : ℕ
 ok = 0

@@ -1,6 +1,6 @@
 -- The words in which the statements are put, each pinned by a law in the library's own words: a word given another meaning breaks its law here, even
 -- where every statement that uses it would still hold. Notion by notion:
---   statuses: `isListed`, `firstOf`; bytes: `bytesEq`, `zeros`; numbers: `leBytes`, `leValue`, `u16At`, `u32At`;
+--   statuses: `isListed`, `firstOf` (those of bytes and numbers have theirs in crate `buffers`);
 --   names: `dedup`; areas: `areas`, `bindingOf`, `slotSize`, `slotCount`, `slots`, `names`;
 --   runs: `answers`, `final`, `sharedStep`; merges: `lefts`, `rights`, `Interleaving`.
 use mathlib.Core.Path.{_≡_}
@@ -8,9 +8,8 @@ use mathlib.Core.Logic.{_↔_}
 use mathlib.Core.Bool.{true, false}
 use mathlib.Core.List.{List, [], _∷_, flatten, List·Memᴰ}
 use mathlib.Core.Option.{some}
-use Prim.Native.Nat.{ℕ, _+_, _*_, _/_, _%_, _^_, _≤_, _<_}
-use lib.ListN.{length, getD, take, drop, replicate}
-use Rattle.spec.specs.Bytes.{bytesEq, zeros, leBytes, leValue, u16At, u32At}
+use Prim.Native.Nat.{ℕ, _*_, _/_, _≤_, _<_}
+use lib.ListN.{length, getD, take, drop}
 use Rattle.spec.specs.Status.{isListed, Test, _when_, firstOf}
 use Rattle.spec.specs.Name.{Name}
 use Rattle.spec.specs.Slots.{dedup}
@@ -24,22 +23,6 @@ pub record TestLaws : Type 0 where
   pub none-says : firstOf [] ≡ 0
   pub says : (n : ℕ) (rest : List Test) → firstOf ((n when true) ∷ rest) ≡ n
   pub passes : (n : ℕ) (rest : List Test) → firstOf ((n when false) ∷ rest) ≡ firstOf rest
-
-pub record ByteLaws : Type 0 where
-  -- the test of two byte strings is their equality
-  pub equal : (a b : List ℕ) → (bytesEq a b ≡ true) ↔ (a ≡ b)
-  -- a fill is zero at every length
-  pub fill : (n : ℕ) → zeros n ≡ replicate n 0
-
-pub record NumberLaws : Type 0 where
-  -- a number in k bytes: byte i counts 256 ^ i
-  pub width : (k n : ℕ) → length (leBytes k n) ≡ k
-  pub digit : (k n i : ℕ) → i < k → getD (leBytes k n) i 0 ≡ n / 256 ^ i % 256
-  -- it is read back from them
-  pub value : (k n : ℕ) → n < 256 ^ k → leValue (leBytes k n) ≡ n
-  -- the 2-byte and the 4-byte number at an offset
-  pub two : (l : List ℕ) (i : ℕ) → u16At l i ≡ getD l i 0 + 256 * getD l (i + 1) 0
-  pub four : (l : List ℕ) (i : ℕ) → u32At l i ≡ u16At l i + 65536 * u16At l (i + 2)
 
 -- equal names once: the same names, and none at two places
 pub record DedupLaws (l : List Name) : Type 0 where
@@ -85,8 +68,6 @@ pub record MergeLaws (A : Type 0) : Type 0 where
 
 pub record Vocabulary : Type 1 where
   pub statuses : TestLaws
-  pub bytes : ByteLaws
-  pub numbers : NumberLaws
   pub distinct-names : (l : List Name) → DedupLaws l
   -- card and chip, and what a name has there
   pub both : (kv rbp : List ℕ) → areas kv rbp ≡ record { kv = kv; rbp = rbp }

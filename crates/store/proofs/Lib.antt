@@ -1,4 +1,8 @@
 pub mod Tests
-pub mod Guards
+pub mod Given
+pub mod Judged
 pub mod Slices
-pub mod Outcome
+pub mod SetCall
+pub mod GetCall
+pub mod RemoveCall
+pub mod IteratorCall

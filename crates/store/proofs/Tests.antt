@@ -1,15 +1,13 @@
--- What a test of the code says of the definition that it computes. Assumes nothing.
-use mathlib.Core.Path.{_≡_, refl, sym, ap, _∙_}
-use mathlib.Core.Bool.{Bool, true, false, not, _&&_, true≢false}
-use mathlib.Core.List.{List}
-use mathlib.Core.Option.{Option, none, some}
+-- What a test of the code says of the definition that it computes, and the tests before a name is looked up. Assumes nothing.
+use mathlib.Core.Path.{_≡_, refl, sym, _∙_}
+use mathlib.Core.Logic.{_≢_}
+use mathlib.Core.Bool.{Bool, true, false, not, _&&_}
+use mathlib.Core.List.{List, [], _∷_, _++_}
 use Prim.Native.Nat.{ℕ}
-use borrow.Author.Tests.{not-true, not-false, eq-eqb}
-use Rattle.spec.specs.Bytes.{isSome}
-use Rattle.spec.specs.Status.{refuseIf, firstOf}
-use Rattle.spec.specs.Record.{writeOnce, requireReplayProtection, flagsOf, wellFormed}
-use Rattle.spec.specs.Request.{Binding, Room}
-use Rattle.spec.specs.Decisions.{recordOf, spaceTests, setHeld}
+use borrow.Author.Tests.{not-true, not-false}
+use Rattle.spec.specs.Status.{ok, Test, _when_, refuseIf, firstOf}
+use Rattle.spec.proofs.Status.{stops, passes}
+use Rattle.store.specs.Parts.{areaTests, early}
 
 -- `if !f(..)`, taken and left
 pub is-false : {b x : Bool} → b ≡ x → not b ≡ true → x ≡ false
@@ -18,23 +16,27 @@ is-false {b} e t = sym e ∙ not-true b t
 pub is-true : {b x : Bool} → b ≡ x → not b ≡ false → x ≡ true
 is-true {b} e t = sym e ∙ not-false b t
 
--- what is looked up, where it is there and where it is not
-pub is-none : (o : Option (List ℕ)) → isSome o ≡ false → o ≡ none
-is-none none e = refl
-is-none (some r) e = absurd (true≢false e)
+-- one number for two tests
+both-say : (a b : Bool) (n x : ℕ) → refuseIf (not (a && b)) n x ≡ refuseIf (not a) n (refuseIf (not b) n x)
+unfolding refuseIf
+both-say true b n x = refl
+both-say false b n x = refl
 
-pub found : (o : Option (List ℕ)) (r : List ℕ) → isSome o ≡ true → r ≡ recordOf o → o ≡ some r
-found none r e h = absurd (true≢false (sym e))
-found (some s) r e h = ap some (sym h)
+module _ (kv rbp : List ℕ) (arguments : List Test) where
+  -- the areas and the lengths that a call has besides, tested first
+  pub none-besides : firstOf (early kv rbp [] arguments) ≡ firstOf (areaTests kv rbp true ++ arguments)
+  unfolding refuseIf
+  none-besides = refl
 
--- what the name has stands in a set's way no more: room decides
-module _ (flags : ℕ) (b : Binding) (room : Room) where
-  pub known-first : (r : List ℕ) → b .stored ≡ some r → wellFormed r ≡ true → writeOnce (flagsOf r) ≡ false → writeOnce flags ≡ false → flags ≡ flagsOf r
-      → firstOf (spaceTests requireReplayProtection flags b room) ≡ firstOf (setHeld requireReplayProtection flags b room)
-  unfolding setHeld refuseIf
-  known-first r e v old new same = rw (e, v, old, new, eq-eqb flags (flagsOf r) same)
+  pub one-besides : (a : Bool) → firstOf (early kv rbp ((1 when not a) ∷ []) arguments) ≡ firstOf (areaTests kv rbp a ++ arguments)
+  one-besides a = refl
 
-  pub new-first : b .stored ≡ none → (writeOnce flags && isSome (b .tag)) ≡ false
-      → firstOf (spaceTests requireReplayProtection flags b room) ≡ firstOf (setHeld requireReplayProtection flags b room)
-  unfolding setHeld refuseIf
-  new-first e w = rw (e, w)
+  pub two-besides : (a b : Bool) → firstOf (early kv rbp ((1 when not a) ∷ (1 when not b) ∷ []) arguments) ≡ firstOf (areaTests kv rbp (a && b) ++ arguments)
+  two-besides a b = rw (both-say a b)
+
+  module _ (lengths : Bool) (g : ℕ) (e : g ≡ firstOf (areaTests kv rbp lengths)) where
+    pub areas-refuse : g ≢ ok → g ≡ firstOf (areaTests kv rbp lengths ++ arguments)
+    areas-refuse h = e ∙ sym (stops (areaTests kv rbp lengths) arguments (λ z. h (e ∙ z)))
+
+    pub arguments-decide : g ≡ ok → firstOf arguments ≡ firstOf (areaTests kv rbp lengths ++ arguments)
+    arguments-decide h = sym (passes (areaTests kv rbp lengths) arguments refl (sym e ∙ h))

@@ -1,53 +1,84 @@
--- Parts of crate `spec`'s calls that a function of the code gives: their tests in the code's grouping.
-use mathlib.Core.Bool.{Bool, not, _&&_}
-use mathlib.Core.List.{List, [], _∷_}
-use mathlib.Core.Option.{Option}
+-- What the functions of the code give, put in the definitions of `spec`: the tests of a call in the groups that a function makes, and what is written.
+--   areaTests                        the tests of card and chip, and of the lengths that a call has besides
+--   early, setEarly .. iteratorEarly the tests that a call makes before it looks the name up; a set's own arguments (setArguments)
+--   given, bindingGiven              what a name has, as the code hands it on: held or not, and the bytes
+--   authentic, fresh                 the tests for 11 and for 12 pass
+--   judged                           a call's status, and the slots that the name has, once the tests before them have passed
+--   recordWritten, recordErased      card and chip, with the slots that were found written and cleared
+use mathlib.Core.Bool.{Bool, false, cond, not, _&&_}
+use mathlib.Core.List.{List, [], _∷_, _++_}
+use mathlib.Core.Option.{Option, none, some}
 use Prim.Native.Nat.{ℕ}
-use lib.Dec.{leb, ltb}
+use lib.Dec.{leb}
 use lib.ListN.{length}
-use Rattle.spec.specs.Status.{_when_, refuseIf, firstOf}
-use Rattle.spec.specs.Name.{Name, validPrefix}
-use Rattle.spec.specs.Record.{requireIntegrity, requireReplayProtection, flagsOf, macOk}
-use Rattle.spec.specs.Area.{kvFormat, rbpFormat, slots, sized, intact}
-use Rattle.spec.specs.Decisions.{keySized, ivSized, tagMatches, spaceTests, setTests, getTests, removeTests}
-use Rattle.spec.specs.Calls.{bindingOf, roomOf, nextMatch}
+use Rattle.spec.specs.Status.{Test, _when_, firstOf, onOk}
+use Rattle.spec.specs.Name.{Name, validName, validPrefix}
+use Rattle.spec.specs.Record.{requireIntegrity, requireReplayProtection, validFlags, maxDataSize, flagsOf, tagOf, macOk, sealRecord}
+use Rattle.spec.specs.Area.{kvFormat, rbpFormat}
+use Rattle.spec.specs.Request.{Binding}
+use Rattle.spec.specs.Decisions.{keySized, ivSized, tagMatches}
+use Rattle.spec.specs.Calls.{Areas, areas, areaLengths, areaDamage}
+use Rattle.slots.specs.declared.areas.Found.{Found}
+use Rattle.slots.specs.Found.{foundIn, insertAt, eraseAt}
+use Rattle.store.specs.declared.judge.Judged.{Judged}
 
--- card and chip of right length; and undamaged
-abbrev pub areasSized : List ℕ → List ℕ → Bool
-areasSized kv rbp = sized kvFormat kv && sized rbpFormat rbp
+-- ---- the tests before the name is looked up
 
-abbrev pub areasIntact : List ℕ → List ℕ → Bool
-areasIntact kv rbp = intact kvFormat kv && intact rbpFormat rbp
+abbrev pub areaTests : List ℕ → List ℕ → Bool → List Test
+areaTests kv rbp lengths = areaLengths (areas kv rbp) ++ ((1 when not lengths) ∷ areaDamage (areas kv rbp))
 
--- 1 for a length, then 2 for damage, then the rest
-unfoldable pub guarded : Bool → Bool → ℕ → ℕ
-guarded lengths undamaged rest = refuseIf (not lengths) 1 (refuseIf (not undamaged) 2 rest)
+-- card and chip, the lengths that a call has besides, damage, then the call's own arguments
+abbrev pub early : List ℕ → List ℕ → List Test → List Test → List Test
+early kv rbp lengths arguments = areaLengths (areas kv rbp) ++ (lengths ++ (areaDamage (areas kv rbp) ++ arguments))
 
--- the status of each call; proofs/Outcome has that it is the call's own
-unfoldable pub setStatus : List ℕ → List ℕ → List ℕ → Name → ℕ → List ℕ → List ℕ → ℕ
-setStatus kv rbp key name flags iv value =
-    guarded (areasSized kv rbp && (keySized key && ivSized iv)) (areasIntact kv rbp)
-    (firstOf (setTests requireReplayProtection name flags value (bindingOf kv rbp name) (roomOf kv rbp)))
+abbrev pub setArguments : Name → ℕ → List ℕ → List Test
+setArguments name flags value = (3 when not (validName name)) ∷ (4 when not (validFlags flags)) ∷ (5 when not (leb (length value) maxDataSize)) ∷ []
 
-unfoldable pub getStatus : List ℕ → List ℕ → List ℕ → Name → ℕ → ℕ
-getStatus kv rbp key name offset =
-    guarded (areasSized kv rbp && keySized key) (areasIntact kv rbp) (firstOf (getTests requireReplayProtection key name offset (bindingOf kv rbp name)))
+abbrev pub setEarly : List ℕ → List ℕ → List ℕ → Name → ℕ → List ℕ → List ℕ → List Test
+setEarly kv rbp key name flags iv value = early kv rbp ((1 when not (keySized key)) ∷ (1 when not (ivSized iv)) ∷ []) (setArguments name flags value)
 
-unfoldable pub removeStatus : List ℕ → List ℕ → Name → ℕ
-removeStatus kv rbp name = guarded (areasSized kv rbp) (areasIntact kv rbp) (firstOf (removeTests name (bindingOf kv rbp name)))
+abbrev pub getEarly : List ℕ → List ℕ → List ℕ → Name → List Test
+getEarly kv rbp key name = early kv rbp ((1 when not (keySized key)) ∷ []) ((3 when not (validName name)) ∷ [])
 
-unfoldable pub iteratorStatus : List ℕ → List ℕ → List ℕ → ℕ → List ℕ → ℕ
-iteratorStatus kv rbp prefix start nameBuf =
-    guarded (areasSized kv rbp && leb 64 (length nameBuf)) (areasIntact kv rbp)
-    (firstOf ((3 when not (validPrefix prefix)) ∷ (6 when not (ltb (nextMatch kv prefix start) (length (slots kvFormat kv)))) ∷ []))
+abbrev pub removeEarly : List ℕ → List ℕ → Name → List Test
+removeEarly kv rbp name = early kv rbp [] ((3 when not (validName name)) ∷ [])
 
--- the last tests of a set
-abbrev pub spaceStatus : ℕ → List ℕ → List ℕ → Name → ℕ
-spaceStatus flags kv rbp name = firstOf (spaceTests requireReplayProtection flags (bindingOf kv rbp name) (roomOf kv rbp))
+abbrev pub iteratorEarly : List ℕ → List ℕ → List ℕ → List ℕ → List Test
+iteratorEarly kv rbp prefix nameBuf = early kv rbp ((1 when not (leb 64 (length nameBuf))) ∷ []) ((3 when not (validPrefix prefix)) ∷ [])
 
--- 11 does not stand in a get's way; nor does 12
+-- ---- what the name has
+
+abbrev pub given : Bool → List ℕ → Option (List ℕ)
+given held bytes = cond held (some bytes) none
+
+abbrev pub bindingGiven : Bool → List ℕ → Bool → List ℕ → Binding
+bindingGiven held stored tagHeld tag = record { stored = given held stored; tag = given tagHeld tag }
+
 abbrev pub authentic : List ℕ → Name → List ℕ → Bool
 authentic key name r = not (requireIntegrity (flagsOf r) && not (macOk key name r))
 
 abbrev pub fresh : Option (List ℕ) → List ℕ → Bool
 fresh tag r = not (requireReplayProtection (flagsOf r) && not (tagMatches tag r))
+
+-- ---- what is decided
+
+abbrev pub nowhere : Found
+nowhere = record { at = 0; held = false }
+
+abbrev pub judged : List ℕ → List ℕ → Name → List Test → List Test → Judged
+judged kv rbp name first tests = record {
+  status = firstOf (first ++ tests);
+  found = onOk (firstOf first) (foundIn kvFormat kv name) nowhere;
+  entry = onOk (firstOf first) (foundIn rbpFormat rbp name) nowhere;
+}
+
+-- ---- what is written
+
+abbrev pub recordWritten : List ℕ → List ℕ → Found → Found → List ℕ → Name → ℕ → List ℕ → List ℕ → Areas
+recordWritten kv rbp found entry key name flags iv value =
+    let r = sealRecord key name flags iv value in
+    areas (insertAt kvFormat kv found name r) (cond (requireReplayProtection flags) (insertAt rbpFormat rbp entry name (tagOf r)) rbp)
+
+abbrev pub recordErased : List ℕ → List ℕ → Found → Found → ℕ → Areas
+recordErased kv rbp found entry flags =
+    areas (eraseAt kvFormat kv found) (cond (requireReplayProtection flags && entry .held) (eraseAt rbpFormat rbp entry) rbp)

@@ -4,13 +4,12 @@ use slots::AreaKind;
 use slots::areas;
 ghost use mathlib.Core.Path.{_≡_};
 ghost use mathlib.Core.Bool.{_&&_};
-ghost use Prim.Native.Nat.{min};
-ghost use Rattle.spec.specs.Status.{ok};
-ghost use Rattle.store.specs.Parts.{areasSized, areasIntact, guarded};
+ghost use Rattle.spec.specs.Status.{firstOf};
+ghost use Rattle.store.specs.Parts.{areaTests};
 
 // Lengths (1) and damage (2); `lengths` says whether the call's other lengths are right.
-pub(crate) fn guard_areas(kv: &[u8], rbp: &[u8], lengths: bool) -> u32
-    ensures { λ r. ⌜ r ≡ guarded (areasSized (now (kv .entry)) (now (rbp .entry)) && lengths) (areasIntact (now (kv .entry)) (now (rbp .entry))) ok ⌝ }
+pub fn guard_areas(kv: &[u8], rbp: &[u8], lengths: bool) -> u32
+    ensures { λ r. ⌜ r ≡ firstOf (areaTests (now (kv .entry)) (now (rbp .entry)) lengths) ⌝ }
 {
     if !areas::area_sized(AreaKind::Kv, kv) {
         return status::ERR_LENGTH;
@@ -34,10 +33,4 @@ pub(crate) fn both(a: bool, b: bool) -> bool
     ensures { λ r. ⌜ r ≡ (a && b) ⌝ }
 {
     if a { b } else { false }
-}
-
-pub(crate) fn least(a: usize, b: usize) -> usize
-    ensures { λ r. ⌜ r ≡ min a b ⌝ }
-{
-    if a < b { a } else { b }
 }

@@ -3,6 +3,7 @@ pub mod answers;
 pub mod get;
 pub mod guard;
 pub mod iterate;
+pub mod judge;
 pub mod remove;
 pub mod reset;
 pub mod set;

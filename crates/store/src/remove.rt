@@ -1,30 +1,45 @@
 // Remove: the name's slot is cleared, and with replay protection the chip's too.
 use crate::guard;
+use crate::judge;
+use crate::judge::Judged;
 use crate::status;
 use records::flags as flag;
 use records::record;
 use slots::AreaKind;
 use slots::areas;
+use slots::areas::Found;
 use slots::names;
 ghost use mathlib.Core.Path.{_≡_};
 ghost use mathlib.Core.Bool.{true};
 ghost use mathlib.Core.List.{[]};
-ghost use Rattle.spec.specs.Record.{requireReplayProtection, wellFormed};
-ghost use Rattle.spec.specs.Area.{kvFormat, rbpFormat, sized, intact, lookup, editArea};
+ghost use Prim.Native.Nat.{_<_};
+ghost use Rattle.spec.specs.Area.{kvFormat, rbpFormat, sized, slotCount, lookup};
 ghost use Rattle.spec.specs.Status.{firstOf};
-ghost use Rattle.spec.specs.Decisions.{recordOf, removeHeld, removeEffect};
-ghost use Rattle.spec.specs.Calls.{bindingOf, storeRemove};
-ghost use Rattle.store.specs.Parts.{areasSized, areasIntact, removeStatus};
+ghost use Rattle.spec.specs.Decisions.{removeHeld};
+ghost use Rattle.spec.specs.Calls.{storeRemove};
+ghost use Rattle.store.specs.Parts.{removeEarly, given, judged, recordErased};
+
+// 1 to 3: what a remove asks before it looks the name up.
+pub fn early_status(kv: &[u8], rbp: &[u8], name: &[u8]) -> u32
+    ensures { λ r. ⌜ r ≡ firstOf (removeEarly (now (kv .entry)) (now (rbp .entry)) (now (name .entry))) ⌝ }
+{
+    let areas = guard::guard_areas(kv, rbp, true);
+    if areas != status::OK {
+        return areas;
+    }
+    if !names::valid_name(name) {
+        return status::ERR_INVALID_NAME;
+    }
+    status::OK
+}
 
 // 6, 8, 7.
-fn held_status(kv: &[u8], name: &[u8]) -> u32
-    requires { ⌜ (sized kvFormat (now kv) ≡ true) × (intact kvFormat (now kv) ≡ true) ⌝ }
-    ensures { λ r. ⌜ r ≡ firstOf (removeHeld (lookup kvFormat (now (kv .entry)) (now (name .entry)))) ⌝ }
+pub fn held_status(held: bool, stored: &[u8]) -> u32
+    ensures { λ r. ⌜ r ≡ firstOf (removeHeld (given held (now (stored .entry)))) ⌝ }
 {
-    if !areas::has_name(AreaKind::Kv, kv, name) {
+    if !held {
         return status::ERR_NOT_FOUND;
     }
-    let stored = areas::payload_of(AreaKind::Kv, kv, name);
     if !record::record_valid(stored) {
         return status::ERR_INVALID_RECORD;
     }
@@ -34,39 +49,43 @@ fn held_status(kv: &[u8], name: &[u8]) -> u32
     status::OK
 }
 
-fn remove_status(kv: &[u8], rbp: &[u8], name: &[u8]) -> u32
-    ensures { λ r. ⌜ r ≡ removeStatus (now (kv .entry)) (now (rbp .entry)) (now (name .entry)) ⌝ }
+// The record's slot is cleared, and with replay protection the chip's, where there is one.
+pub fn erase_record(kv: &mut [u8], rbp: &mut [u8], found: Found, entry: Found, flags: u32)
+    requires { ⌜ (sized kvFormat (now kv) ≡ true) × (found .at < slotCount kvFormat (now kv)) ⌝ }
+    requires { ⌜ (sized rbpFormat (now rbp) ≡ true) × (entry .held ≡ true → entry .at < slotCount rbpFormat (now rbp)) ⌝ }
+    ensures { λ _. ⌜ record { kv = now (kv .exit); rbp = now (rbp .exit) } ≡ recordErased (now (kv .entry)) (now (rbp .entry)) found entry flags ⌝ }
 {
-    let guarded = guard::guard_areas(kv, rbp, true);
-    if guarded != status::OK {
-        return guarded;
+    areas::erase_at(AreaKind::Kv, kv, found);
+    if guard::both(flag::require_replay_protection(flags), entry.held) {
+        areas::erase_at(AreaKind::Rbp, rbp, entry);
     }
-    if !names::valid_name(name) {
-        return status::ERR_INVALID_NAME;
-    }
-    held_status(kv, name)
 }
 
-// The name's slot is cleared, and with replay protection the chip's.
-fn erase_record(kv: &mut [u8], rbp: &mut [u8], name: &[u8])
-    requires { ⌜ (areasSized (now kv) (now rbp) ≡ true) × (areasIntact (now kv) (now rbp) ≡ true) ⌝ }
-    requires { ⌜ wellFormed (recordOf (lookup kvFormat (now kv) (now name))) ≡ true ⌝ }
-    ensures { λ _. ⌜ (now (kv .exit) ≡ editArea kvFormat (now (kv .entry)) (now (name .entry)) (removeEffect requireReplayProtection (bindingOf (now (kv .entry)) (now (rbp .entry)) (now (name .entry))) .kv)) × (now (rbp .exit) ≡ editArea rbpFormat (now (rbp .entry)) (now (name .entry)) (removeEffect requireReplayProtection (bindingOf (now (kv .entry)) (now (rbp .entry)) (now (name .entry))) .rbp)) ⌝ }
+pub fn judge(kv: &[u8], rbp: &[u8], name: &[u8]) -> Judged
+    ensures { λ r. ⌜ r ≡ judged (now (kv .entry)) (now (rbp .entry)) (now (name .entry)) (removeEarly (now (kv .entry)) (now (rbp .entry)) (now (name .entry))) (removeHeld (lookup kvFormat (now (kv .entry)) (now (name .entry)))) ⌝ }
 {
-    let flags = record::record_flags(areas::payload_of(AreaKind::Kv, kv, name));
-    areas::erase_slot(AreaKind::Kv, kv, name);
-    if flag::require_replay_protection(flags) {
-        areas::erase_slot(AreaKind::Rbp, rbp, name);
+    let early = early_status(kv, rbp, name);
+    if early != status::OK {
+        return judge::refused(early);
+    }
+    let found = areas::find(AreaKind::Kv, kv, name);
+    let entry = areas::find(AreaKind::Rbp, rbp, name);
+    let status = held_status(found.held, areas::payload_at(AreaKind::Kv, kv, found));
+    Judged {
+        status,
+        found,
+        entry,
     }
 }
 
 pub fn remove(kv: &mut [u8], rbp: &mut [u8], name: &[u8]) -> u32
     ensures { λ r. ⌜ record { answer = record { status = r; numbers = []; output = [] }; after = record { kv = now (kv .exit); rbp = now (rbp .exit) } } ≡ storeRemove (now (kv .entry)) (now (rbp .entry)) (now (name .entry)) ⌝ }
 {
-    let status = remove_status(kv, rbp, name);
-    if status != status::OK {
-        return status;
+    let judged = judge(kv, rbp, name);
+    if judged.status != status::OK {
+        return judged.status;
     }
-    erase_record(kv, rbp, name);
+    let flags = record::record_flags(areas::payload_at(AreaKind::Kv, kv, judged.found));
+    erase_record(kv, rbp, judged.found, judged.entry, flags);
     status::OK
 }

@@ -1,8 +1,8 @@
 // Reset: both areas are cleared, whatever they hold.
 use crate::status;
+use buffers::parts;
 use slots::AreaKind;
 use slots::areas;
-use slots::buffers;
 ghost use mathlib.Core.Path.{_≡_};
 ghost use mathlib.Core.List.{[]};
 ghost use Rattle.spec.specs.Calls as Calls;
@@ -16,7 +16,7 @@ pub fn reset(kv: &mut [u8], rbp: &mut [u8]) -> u32
     if !areas::area_sized(AreaKind::Rbp, rbp) {
         return status::ERR_LENGTH;
     }
-    buffers::clear(kv);
-    buffers::clear(rbp);
+    parts::clear(kv);
+    parts::clear(rbp);
     status::OK
 }

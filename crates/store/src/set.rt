@@ -1,104 +1,32 @@
 // Set: a record made from the arguments is put under the name.
 use crate::guard;
+use crate::judge;
+use crate::judge::Judged;
 use crate::status;
-use records::arrays;
+use buffers::parts;
 use records::flags as flag;
 use records::record;
 use records::seal;
 use slots::AreaKind;
 use slots::areas;
+use slots::areas::Found;
 use slots::names;
 ghost use mathlib.Core.Path.{_≡_};
-ghost use mathlib.Core.Bool.{true, not, _&&_};
-ghost use mathlib.Core.List.{[]};
-ghost use Rattle.spec.specs.Bytes.{isSome};
-ghost use Rattle.spec.specs.Area.{kvFormat, rbpFormat, sized, intact, lookup, hasSpace};
+ghost use mathlib.Core.Bool.{true};
+ghost use mathlib.Core.List.{[], _++_};
+ghost use Prim.Native.Nat.{_<_};
+ghost use Rattle.spec.specs.Area.{kvFormat, rbpFormat, sized, slotCount};
 ghost use Rattle.spec.specs.Name.{validName};
 ghost use Rattle.spec.specs.Record.{requireReplayProtection, Sealable};
-ghost use Rattle.spec.specs.Area.{editArea};
 ghost use Rattle.spec.specs.Status.{firstOf};
-ghost use Rattle.spec.specs.Decisions.{setHeld, setEffect};
+ghost use Rattle.spec.specs.Decisions.{setHeld, spaceTests};
 ghost use Rattle.spec.specs.Calls.{bindingOf, roomOf, storeSet};
-ghost use Rattle.slots.specs.Kind.{formatOf};
-ghost use Rattle.store.specs.Parts.{areasSized, areasIntact, setStatus, spaceStatus};
+ghost use Rattle.store.specs.Parts.{setArguments, setEarly, bindingGiven, judged, recordWritten};
 
-// A slot that the name would need is not there.
-fn lacks_slot(kind: AreaKind, area: &[u8], name: &[u8]) -> bool
-    requires { ⌜ (sized (formatOf kind) (now area) ≡ true) × (intact (formatOf kind) (now area) ≡ true) ⌝ }
-    ensures { λ r. ⌜ r ≡ (not (isSome (lookup (formatOf kind) (now (area .entry)) (now (name .entry)))) && not (hasSpace (formatOf kind) (now (area .entry)))) ⌝ }
+// 3 to 5.
+pub fn argument_status(name: &[u8], flags: u32, data: &[u8]) -> u32
+    ensures { λ r. ⌜ r ≡ firstOf (setArguments (now (name .entry)) flags (now («data» .entry))) ⌝ }
 {
-    if areas::has_name(kind, area, name) {
-        return false;
-    }
-    if areas::has_space(kind, area) {
-        return false;
-    }
-    true
-}
-
-// 10, or done.
-fn space_status(kv: &[u8], rbp: &[u8], name: &[u8], flags: u32) -> u32
-    requires { ⌜ (areasSized (now kv) (now rbp) ≡ true) × (areasIntact (now kv) (now rbp) ≡ true) ⌝ }
-    ensures { λ r. ⌜ r ≡ spaceStatus flags (now (kv .entry)) (now (rbp .entry)) (now (name .entry)) ⌝ }
-{
-    if lacks_slot(AreaKind::Kv, kv, name) {
-        return status::ERR_NO_SPACE;
-    }
-    if !flag::require_replay_protection(flags) {
-        return status::OK;
-    }
-    if lacks_slot(AreaKind::Rbp, rbp, name) {
-        return status::ERR_NO_SPACE;
-    }
-    status::OK
-}
-
-// What the name has: 8, 7, 9 where it is on the card, 7 where it is not; then 10.
-fn held_status(kv: &[u8], rbp: &[u8], name: &[u8], flags: u32) -> u32
-    requires { ⌜ (areasSized (now kv) (now rbp) ≡ true) × (areasIntact (now kv) (now rbp) ≡ true) ⌝ }
-    ensures { λ r. ⌜ r ≡ firstOf (setHeld requireReplayProtection flags (bindingOf (now (kv .entry)) (now (rbp .entry)) (now (name .entry))) (roomOf (now (kv .entry)) (now (rbp .entry)))) ⌝ }
-{
-    if areas::has_name(AreaKind::Kv, kv, name) {
-        let old = areas::payload_of(AreaKind::Kv, kv, name);
-        if !record::record_valid(old) {
-            return status::ERR_INVALID_RECORD;
-        }
-        let old_flags = record::record_flags(old);
-        if flag::write_once(old_flags) {
-            return status::ERR_ALREADY_EXISTS;
-        }
-        if flag::write_once(flags) {
-            return status::ERR_ALREADY_EXISTS;
-        }
-        if flags != old_flags {
-            return status::ERR_FLAGS_MISMATCH;
-        }
-        return space_status(kv, rbp, name, flags);
-    }
-    if !flag::write_once(flags) {
-        return space_status(kv, rbp, name, flags);
-    }
-    if !areas::has_name(AreaKind::Rbp, rbp, name) {
-        return space_status(kv, rbp, name, flags);
-    }
-    status::ERR_ALREADY_EXISTS
-}
-
-fn set_status(
-    kv: &[u8],
-    rbp: &[u8],
-    device_key: &[u8],
-    name: &[u8],
-    flags: u32,
-    iv: &[u8],
-    data: &[u8],
-) -> u32
-    ensures { λ r. ⌜ r ≡ setStatus (now (kv .entry)) (now (rbp .entry)) (now («device_key» .entry)) (now (name .entry)) flags (now (iv .entry)) (now («data» .entry)) ⌝ }
-{
-    let guarded = guard::guard_areas(kv, rbp, guard::both(device_key.len() == 16, iv.len() == 8));
-    if guarded != status::OK {
-        return guarded;
-    }
     if !names::valid_name(name) {
         return status::ERR_INVALID_NAME;
     }
@@ -108,29 +36,120 @@ fn set_status(
     if 480 < data.len() {
         return status::ERR_DATA_SIZE;
     }
-    held_status(kv, rbp, name, flags)
+    status::OK
+}
+
+// 1 to 5: what a set asks before it looks the name up.
+pub fn early_status(
+    kv: &[u8],
+    rbp: &[u8],
+    device_key: &[u8],
+    name: &[u8],
+    flags: u32,
+    iv: &[u8],
+    data: &[u8],
+) -> u32
+    ensures { λ r. ⌜ r ≡ firstOf (setEarly (now (kv .entry)) (now (rbp .entry)) (now («device_key» .entry)) (now (name .entry)) flags (now (iv .entry)) (now («data» .entry))) ⌝ }
+{
+    let areas = guard::guard_areas(kv, rbp, guard::both(device_key.len() == 16, iv.len() == 8));
+    if areas != status::OK {
+        return areas;
+    }
+    argument_status(name, flags, data)
+}
+
+// 8, 7, 9 where the card holds the name; 7 where it does not.
+pub fn held_status(flags: u32, held: bool, stored: &[u8], tag_held: bool) -> u32
+    ensures { λ r. ⌜ r ≡ firstOf (setHeld flags (bindingGiven held (now (stored .entry)) «tag_held» [])) ⌝ }
+{
+    if held {
+        if !record::record_valid(stored) {
+            return status::ERR_INVALID_RECORD;
+        }
+        let old_flags = record::record_flags(stored);
+        if flag::write_once(old_flags) {
+            return status::ERR_ALREADY_EXISTS;
+        }
+        if flag::write_once(flags) {
+            return status::ERR_ALREADY_EXISTS;
+        }
+        if flags != old_flags {
+            return status::ERR_FLAGS_MISMATCH;
+        }
+        return status::OK;
+    }
+    if guard::both(flag::write_once(flags), tag_held) {
+        return status::ERR_ALREADY_EXISTS;
+    }
+    status::OK
+}
+
+// 10, or done.
+pub fn space_status(flags: u32, held: bool, kv_space: bool, tag_held: bool, rbp_space: bool) -> u32
+    ensures { λ r. ⌜ r ≡ firstOf (spaceTests requireReplayProtection flags (bindingGiven held [] «tag_held» []) (record { kv = «kv_space»; rbp = «rbp_space» })) ⌝ }
+{
+    if guard::both(!held, !kv_space) {
+        return status::ERR_NO_SPACE;
+    }
+    let full = guard::both(!tag_held, !rbp_space);
+    if guard::both(flag::require_replay_protection(flags), full) {
+        return status::ERR_NO_SPACE;
+    }
+    status::OK
 }
 
 // The record goes to its slot, and with replay protection its CMAC to the chip's.
-fn write_record(
+pub fn write_record(
     kv: &mut [u8],
     rbp: &mut [u8],
+    found: Found,
+    entry: Found,
     device_key: [u8; 16],
     name: &[u8],
     flags: u32,
     iv: [u8; 8],
     data: &[u8],
 )
-    requires { ⌜ (areasSized (now kv) (now rbp) ≡ true) × (areasIntact (now kv) (now rbp) ≡ true) ⌝ }
+    requires { ⌜ (sized kvFormat (now kv) ≡ true) × (found .at < slotCount kvFormat (now kv)) ⌝ }
+    requires { ⌜ (sized rbpFormat (now rbp) ≡ true) × (requireReplayProtection flags ≡ true → entry .at < slotCount rbpFormat (now rbp)) ⌝ }
     requires { ⌜ (validName (now name) ≡ true) × (Sealable flags iv (now «data»)) ⌝ }
-    ensures { λ _. ⌜ (now (kv .exit) ≡ editArea kvFormat (now (kv .entry)) (now (name .entry)) (setEffect requireReplayProtection «device_key» (now (name .entry)) flags iv (now («data» .entry)) .kv)) × (now (rbp .exit) ≡ editArea rbpFormat (now (rbp .entry)) (now (name .entry)) (setEffect requireReplayProtection «device_key» (now (name .entry)) flags iv (now («data» .entry)) .rbp)) ⌝ }
+    ensures { λ _. ⌜ record { kv = now (kv .exit); rbp = now (rbp .exit) } ≡ recordWritten (now (kv .entry)) (now (rbp .entry)) found entry «device_key» (now (name .entry)) flags iv (now («data» .entry)) ⌝ }
 {
     let record_buf = seal::seal_record(device_key, name, flags, iv, data);
     let len = data.len() + 36;
-    areas::insert_slot(AreaKind::Kv, kv, name, &record_buf[0..len]);
+    areas::insert_at(AreaKind::Kv, kv, found, name, &record_buf[0..len]);
     if flag::require_replay_protection(flags) {
-        let at = len - 16;
-        areas::insert_slot(AreaKind::Rbp, rbp, name, &record_buf[at..len]);
+        let tag = len - 16;
+        areas::insert_at(AreaKind::Rbp, rbp, entry, name, &record_buf[tag..len]);
+    }
+}
+
+pub fn judge(
+    kv: &[u8],
+    rbp: &[u8],
+    device_key: &[u8],
+    name: &[u8],
+    flags: u32,
+    iv: &[u8],
+    data: &[u8],
+) -> Judged
+    ensures { λ r. ⌜ r ≡ judged (now (kv .entry)) (now (rbp .entry)) (now (name .entry)) (setEarly (now (kv .entry)) (now (rbp .entry)) (now («device_key» .entry)) (now (name .entry)) flags (now (iv .entry)) (now («data» .entry))) (setHeld flags (bindingOf (now (kv .entry)) (now (rbp .entry)) (now (name .entry))) ++ spaceTests requireReplayProtection flags (bindingOf (now (kv .entry)) (now (rbp .entry)) (now (name .entry))) (roomOf (now (kv .entry)) (now (rbp .entry)))) ⌝ }
+{
+    let early = early_status(kv, rbp, device_key, name, flags, iv, data);
+    if early != status::OK {
+        return judge::refused(early);
+    }
+    let found = areas::find(AreaKind::Kv, kv, name);
+    let entry = areas::find(AreaKind::Rbp, rbp, name);
+    let stored = areas::payload_at(AreaKind::Kv, kv, found);
+    let held = held_status(flags, found.held, stored, entry.held);
+    let kv_space = areas::has_space(AreaKind::Kv, kv);
+    let rbp_space = areas::has_space(AreaKind::Rbp, rbp);
+    let space = space_status(flags, found.held, kv_space, entry.held, rbp_space);
+    Judged {
+        status: status::first(held, space),
+        found,
+        entry,
     }
 }
 
@@ -145,17 +164,21 @@ pub fn set(
 ) -> u32
     ensures { λ r. ⌜ record { answer = record { status = r; numbers = []; output = [] }; after = record { kv = now (kv .exit); rbp = now (rbp .exit) } } ≡ storeSet (now (kv .entry)) (now (rbp .entry)) (now («device_key» .entry)) (now (name .entry)) flags (now (iv .entry)) (now («data» .entry)) ⌝ }
 {
-    let status = set_status(kv, rbp, device_key, name, flags, iv, data);
-    if status != status::OK {
-        return status;
+    let judged = judge(kv, rbp, device_key, name, flags, iv, data);
+    if judged.status != status::OK {
+        return judged.status;
     }
+    let key = parts::array16(device_key);
+    let iv8 = parts::array8(iv);
     write_record(
         kv,
         rbp,
-        arrays::array16(device_key),
+        judged.found,
+        judged.entry,
+        key,
         name,
         flags,
-        arrays::array8(iv),
+        iv8,
         data,
     );
     status::OK

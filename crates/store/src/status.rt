@@ -1,4 +1,8 @@
 // The numbers that the calls answer with.
+ghost use mathlib.Core.Path.{_≡_};
+ghost use mathlib.Core.Bool.{cond};
+ghost use lib.Dec.{eqb};
+
 pub const OK: u32 = 0;
 
 pub const ERR_LENGTH: u32 = 1;
@@ -28,3 +32,10 @@ pub const ERR_ROLLBACK: u32 = 12;
 pub const ERR_INVALID_KEY_FILE: u32 = 13;
 
 pub const ERR_OFFSET: u32 = 14;
+
+// The first of two numbers that is not 0, as 01 orders tests.
+pub fn first(a: u32, b: u32) -> u32
+    ensures { λ r. ⌜ r ≡ cond (eqb a 0) b a ⌝ }
+{
+    if a == OK { b } else { a }
+}

@@ -15,7 +15,7 @@ refused-requires c κs = search needs
 
 returns : tie.Need-returns
 unfolding bytesAt takenAt
-returns c = c .refused .ensures ∙ rw (is-false (c .before .before .has-bytes .ensures) (c .before .if1 .taken))
+returns c = let test = c .before in c .refused .ensures ∙ rw (is-false (test .before .has-bytes .ensures) (test .if1 .taken))
 
 add-t6 : tie.Need-add-t6
 add-t6 c =

@@ -15,24 +15,25 @@ refused-requires c κs = search needs
 
 returns : tie.Need-returns
 unfolding fieldAt takenAt
-returns c = c .refused .ensures ∙ rw (is-false (c .before .before .has-bytes .ensures) (c .before .if1 .taken))
+returns c = let test = c .before in c .refused .ensures ∙ rw (is-false (test .before .has-bytes .ensures) (test .if1 .taken))
 
-u32-at-requires : tie.Need-u32-at-requires
-u32-at-requires c κs =
+le-at-requires : tie.Need-le-at-requires
+le-at-requires c κs =
     let a = c .before .before .before .args in
-    has-end (a .file .now) (a .pos) 4 (is-true (c .before .has-bytes .ensures) (c .if1 .left))
+    (has-end (a .file .now) (a .pos) 4 (is-true (c .before .has-bytes .ensures) (c .if1 .left)), search needs)
 
 add-t6 : tie.Need-add-t6
 add-t6 c =
-    let a = c .before .before .before .before .args in
-    let h = has-end (a .file .now) (a .pos) 4 (is-true (c .before .before .has-bytes .ensures) (c .before .if1 .left)) in
+    let test = c .before in
+    let a = test .before .before .before .args in
+    let h = has-end (a .file .now) (a .pos) 4 (is-true (test .before .has-bytes .ensures) (test .if1 .left)) in
     search needs
 
 returns-2 : tie.Need-returns-2
 unfolding fieldAt takenAt
-returns-2 c = rw (is-true (c .before .before .has-bytes .ensures) (c .before .if1 .left), c .u32-at .ensures)
+returns-2 c = let test = c .before in rw (is-true (test .before .has-bytes .ensures) (test .if1 .left), c .le-at .ensures)
 
 pub field-at-spec : {M : Type 1} → statement M
 field-at-spec =
     tie.close
-    (tie.spec has-bytes-requires refused-requires returns u32-at-requires add-t6 returns-2)
+    (tie.spec has-bytes-requires refused-requires returns le-at-requires add-t6 returns-2)

@@ -1,9 +1,14 @@
 -- `keys::fields::mark_at`: two tests, the second on a part of eight bytes.
-use mathlib.Core.Path.{_∙_}
+use mathlib.Core.Path.{ap, _∙_}
+use mathlib.Core.List.{List}
+use Prim.Native.Nat.{ℕ}
+use Rattle.buffers.specs.Bytes.{bytesEq}
+use Rattle.buffers.proofs.Lists.{part}
+use Rattle.keys.specs.KeyFile.{mark}
 use borrow.Author.Needs.{needs}
 use Rattle.keys.specs.Reader.{takenAt, markAt}
 use Rattle.store.proofs.Tests.{is-false, is-true}
-use Rattle.keys.proofs.Taken.{has-end, part-equal}
+use Rattle.keys.proofs.Taken.{has-end}
 use Rattle.keys.proofs.fields.mark_at.Statement.{statement}
 use Rattle.keys.proofs.fields.mark_at.Tie as tie
 
@@ -15,7 +20,7 @@ refused-requires c κs = search needs
 
 returns : tie.Need-returns
 unfolding markAt takenAt
-returns c = c .refused .ensures ∙ rw (is-false (c .before .before .has-bytes .ensures) (c .before .if1 .taken))
+returns c = let test = c .before in c .refused .ensures ∙ rw (is-false (test .before .has-bytes .ensures) (test .if1 .taken))
 
 add-end : tie.Need-add-end
 add-end c =
@@ -46,15 +51,22 @@ refused-requires-2 c κs = search needs
 returns-2 : tie.Need-returns-2
 unfolding markAt takenAt
 returns-2 c =
-    let a = c .before .before .before .before .before .before .before .before .args in
-    c .refused2 .ensures
-    ∙ rw (is-true (c .before .before .before .before .before .before .has-bytes .ensures) (c .before .before .before .before .before .if1 .left), is-false (c .before .before .bytes-equal .ensures ∙ part-equal (a .file .now) (a .pos) 8) (c .before .if2 .taken))
+    let compared = c .before .before in
+    let test = compared .before .before .before in
+    let asked = test .before in
+    let a = asked .before .before .args in
+    let differs = compared .bytes-equal .ensures ∙ ap (λ (l : List ℕ). bytesEq l mark) (part (a .pos) 8 (a .file .now)) in
+    c .refused2 .ensures ∙ rw (is-true (asked .has-bytes .ensures) (test .if1 .left), is-false differs (c .before .if2 .taken))
 
 returns-3 : tie.Need-returns-3
 unfolding markAt takenAt
 returns-3 c =
-    let a = c .before .before .before .before .before .before .before .args in
-    rw (is-true (c .before .before .before .before .before .has-bytes .ensures) (c .before .before .before .before .if1 .left), is-true (c .before .bytes-equal .ensures ∙ part-equal (a .file .now) (a .pos) 8) (c .if2 .left))
+    let compared = c .before in
+    let test = compared .before .before .before in
+    let asked = test .before in
+    let a = asked .before .before .args in
+    let same = compared .bytes-equal .ensures ∙ ap (λ (l : List ℕ). bytesEq l mark) (part (a .pos) 8 (a .file .now)) in
+    rw (is-true (asked .has-bytes .ensures) (test .if1 .left), is-true same (c .if2 .left))
 
 pub mark-at-spec : {M : Type 1} → statement M
 mark-at-spec =

@@ -6,22 +6,23 @@ use native.Mathlib.Omega.{arith}
 use lib.ListN.{drop}
 use borrow.Author.Needs.{needs}
 use Rattle.keys.specs.KeyFile.{formatKeyFile}
-use Rattle.keys.specs.Calls.{writeKeyFile}
+use Rattle.keys.specs.Calls.{formatTests, writeKeyFile}
 use Rattle.keys.proofs.Written.{file-length, answer-refused, answer-done, short-buffer, long-material, writes}
 use Rattle.keys.proofs.format.format_key_file.Statement.{statement}
 use Rattle.keys.proofs.format.format_key_file.Tie as tie
 
 returns : tie.Need-returns
-unfolding writeKeyFile
+unfolding writeKeyFile formatTests
 returns c =
-    let a = c .before .before .before .args in
-    answer-refused 1 _ _ (a .key-buf .now) (short-buffer (a .material .now) (a .key-buf .now) (c .if1 .taken)) (omega arith)
+    let buf = c .before .before .before .args .key-buf .now in
+    answer-refused 1 _ _ buf (short-buffer buf _ (c .if1 .taken)) (omega arith)
 
 returns-2 : tie.Need-returns-2
 unfolding writeKeyFile
 returns-2 c =
     let a = c .before .before .before .before .args in
-    answer-refused 13 _ _ (a .key-buf .now) (long-material (a .material .now) (a .key-buf .now) (c .before .if1 .left) (c .if2 .taken)) (omega arith)
+    let buf = a .key-buf .now in
+    answer-refused 13 _ _ buf (long-material (a .material .now) buf (c .before .if1 .left) (c .if2 .taken)) (omega arith)
 
 put-key-file-requires : tie.Need-put-key-file-requires
 put-key-file-requires c κs = search needs
@@ -35,11 +36,15 @@ same-length c = search needs
 returns-3 : tie.Need-returns-3
 unfolding writeKeyFile
 returns-3 c =
-    let a = c .before .before .before .before .before .before .before .before .args in
-    let b = a .key-buf .now in
-    let f = formatKeyFile (a .attributes) (a .material .now) in
-    let n = file-length (a .attributes) (a .material .now) in
-    answer-done _ _ f b _ (writes (a .material .now) b (c .before .before .before .before .before .if1 .left) (c .before .before .before .before .if2 .left)) (sym n) (c .before .before .put-key-file .ensures ∙ ap (λ (k : ℕ). f ++ drop k b) (sym n))
+    let put = c .before .before in
+    let test2 = put .before .before in
+    let test1 = test2 .before in
+    let a = test1 .before .before .before .args in
+    let buf = a .key-buf .now in
+    let m = a .material .now in
+    let f = formatKeyFile (a .attributes) m in
+    let n = sym (file-length (a .attributes) m) in
+    answer-done _ _ f buf _ (writes m buf (test1 .if1 .left) (test2 .if2 .left)) n (put .put-key-file .ensures ∙ ap (λ (k : ℕ). f ++ drop k buf) n)
 
 pub format-key-file-spec : {M : Type 1} → statement M
 format-key-file-spec =

@@ -22,8 +22,11 @@ same-length c = search needs
 returns : tie.Need-returns
 unfolding keyFileHeader formatKeyFile
 returns c =
-    let a = c .before .before .before .before .before .before .before .before .before .before .args in
-    behind (a .dst .now) (keyFileHeader (a .attributes) (length (a .material .now))) (a .material .now) _ _ 36 (c .before .before .before .before .before .before .put-header .ensures) (c .before .before .paste .ensures) refl
+    let pasted = c .before .before in
+    let headed = pasted .before .before .before .before in
+    let a = headed .before .before .before .before .args in
+    let m = a .material .now in
+    behind (a .dst .now) (keyFileHeader (a .attributes) (length m)) m _ _ 36 (headed .put-header .ensures) (pasted .paste .ensures) refl
 
 pub put-key-file-spec : {M : Type 1} → statement M
 put-key-file-spec =

@@ -37,8 +37,12 @@ loop-less c = search needs
 loop-again : tie.Need-loop-again Inv-loop μ-loop
 loop-again c =
     let l = c .before .before .loop in
-    let e : l .i ≡ suc (l .i - 1) = omega arith in
-    (search needs, rw (length-set (l .digits) (l .i - 1) _) (l .inv .1), omega arith, rw (c .hex-digit .ensures) (digit-step (l .digits) (l .i - 1) (l .rest) (omega arith)) ∙ rw e at (l .inv .3))
+    let e : l .i ≡ suc (l .i - 1) = omega arith in (
+      search needs,
+      rw (length-set (l .digits) (l .i - 1) _) (l .inv .1),
+      omega arith,
+      rw (c .hex-digit .ensures) (digit-step (l .digits) (l .i - 1) (l .rest) (omega arith)) ∙ rw e at (l .inv .3),
+    )
 
 returns : tie.Need-returns Inv-loop μ-loop
 returns c =

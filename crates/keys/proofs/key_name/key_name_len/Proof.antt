@@ -11,10 +11,10 @@ returns : tie.Need-returns
 returns c = sym (ap (λ (l : List ℕ). length l) (no-name (c .before .args .key-id) (c .if1 .taken)))
 
 returns-2 : tie.Need-returns-2
-returns-2 c = sym (ap (λ (l : List ℕ). length l) (high-name (c .before .before .args .key-id) (c .if2 .taken)))
+returns-2 c = let id = c .before .before .args .key-id in sym (ap (λ (l : List ℕ). length l) (high-name id (c .if2 .taken)))
 
 returns-3 : tie.Need-returns-3
-returns-3 c = sym (key-length (c .before .before .args .key-id) (c .before .if1 .left) (c .if2 .left))
+returns-3 c = let id = c .before .before .args .key-id in sym (key-length id (c .before .if1 .left) (c .if2 .left))
 
 pub key-name-len-spec : {M : Type 1} → statement M
 key-name-len-spec = tie.close (tie.spec returns returns-2 returns-3)

@@ -13,54 +13,71 @@ refused-requires c κs = search needs
 
 returns : tie.Need-returns
 returns c =
-    let h = c .before .before .before .read-header in
-    c .refused .ensures ∙ sym (no-header (c .before .before .before .before .before .args .file .now) (h .result) (h .ensures) (c .before .if1 .taken))
+    let test = c .before in
+    let read = test .before .before in
+    let h = read .read-header in
+    let file = read .before .before .args .file .now in
+    c .refused .ensures ∙ sym (no-header file (h .result) (h .ensures) (test .if1 .taken))
 
 refused-requires-2 : tie.Need-refused-requires-2
 refused-requires-2 c κs = search needs
 
 returns-2 : tie.Need-returns-2
 returns-2 c =
-    let h = c .before .before .before .before .before .read-header in
-    c .refused2 .ensures ∙ sym (other-version (c .before .before .before .before .before .before .before .args .file .now) (h .result) (h .ensures) (c .before .if2 .taken))
+    let test = c .before in
+    let read = test .before .before .before .before in
+    let h = read .read-header in
+    let file = read .before .before .args .file .now in
+    c .refused2 .ensures ∙ sym (other-version file (h .result) (h .ensures) (test .if2 .taken))
 
-cast-material-len : tie.Need-cast-material-len
-cast-material-len c = search needs
+cast-if3 : tie.Need-cast-if3
+cast-if3 c = search needs
 
 refused-requires-3 : tie.Need-refused-requires-3
 refused-requires-3 c κs = search needs
 
 returns-3 : tie.Need-returns-3
 returns-3 c =
-    let h = c .before .before .before .before .before .before .before .read-header in
-    c .refused3 .ensures ∙ sym (more-material (c .before .before .before .before .before .before .before .before .before .args .file .now) (h .result) (h .ensures) (c .before .if3 .taken))
-
-bytes-at-requires : tie.Need-bytes-at-requires
-bytes-at-requires c κs = search needs
+    let test = c .before in
+    let read = test .before .before .before .before .before .before in
+    let h = read .read-header in
+    let file = read .before .before .args .file .now in
+    c .refused3 .ensures ∙ sym (more-material file (h .result) (h .ensures) (test .if3 .taken))
 
 refused-requires-4 : tie.Need-refused-requires-4
 refused-requires-4 c κs = search needs
 
 returns-4 : tie.Need-returns-4
 returns-4 c =
-    let m = c .before .before .before .bytes-at in
-    let h = c .before .before .before .before .before .before .before .before .before .before .read-header in
-    c .refused4 .ensures ∙ sym (missing-bytes (c .before .before .before .before .before .before .before .before .before .before .before .before .args .file .now) (h .result) (h .ensures) (m .result) (m .ensures) (c .before .if4 .taken))
+    let test = c .before in
+    let read = test .before .before .before .before .before .before .before .before in
+    let h = read .read-header in
+    let file = read .before .before .args .file .now in
+    c .refused4 .ensures ∙ sym (missing-bytes file (h .result) (h .ensures) (test .if4 .taken))
 
 refused-requires-5 : tie.Need-refused-requires-5
 refused-requires-5 c κs = search needs
 
 returns-5 : tie.Need-returns-5
 returns-5 c =
-    let m = c .before .before .before .before .before .bytes-at in
-    let h = c .before .before .before .before .before .before .before .before .before .before .before .before .read-header in
-    c .refused5 .ensures ∙ sym (trailing-bytes (c .before .before .before .before .before .before .before .before .before .before .before .before .before .before .args .file .now) (h .result) (h .ensures) (m .result) (m .ensures) (c .before .if5 .taken))
+    let test = c .before in
+    let read = test .before .before .before .before .before .before .before .before .before .before in
+    let h = read .read-header in
+    let file = read .before .before .args .file .now in
+    c .refused5 .ensures ∙ sym (trailing-bytes file (h .result) (h .ensures) (test .if5 .taken))
 
 returns-6 : tie.Need-returns-6
 returns-6 c =
-    let m = c .before .before .before .before .before .bytes-at in
-    let h = c .before .before .before .before .before .before .before .before .before .before .before .before .read-header in
-    accepted (c .before .before .before .before .before .before .before .before .before .before .before .before .before .before .args .file .now) (h .result) (h .ensures) (m .result) (m .ensures) (c .before .before .before .before .before .before .before .before .before .before .if1 .left) (c .before .before .before .before .before .before .before .before .if2 .left) (c .before .before .before .before .before .before .if3 .left) (c .before .before .before .if4 .left) (c .before .if5 .left)
+    let test5 = c .before in
+    let test4 = test5 .before .before in
+    let test3 = test4 .before .before in
+    let test2 = test3 .before .before in
+    let test1 = test2 .before .before in
+    let read = test1 .before .before in
+    let h = read .read-header in
+    let file = read .before .before .args .file .now in
+    accepted file (h .result) (h .ensures) (test1 .if1 .left) (test2 .if2 .left) (test3 .if3 .left)
+    (test4 .if4 .left) (test5 .if5 .left)
 
 pub parse-key-file-spec : {M : Type 1} → statement M
 parse-key-file-spec =
@@ -71,10 +88,9 @@ parse-key-file-spec =
     returns
     refused-requires-2
     returns-2
-    cast-material-len
+    cast-if3
     refused-requires-3
     returns-3
-    bytes-at-requires
     refused-requires-4
     returns-4
     refused-requires-5

@@ -21,7 +21,11 @@ part-get-start : tie.Need-part-get-start
 part-get-start c = search needs
 
 part-get-end : tie.Need-part-get-end
-part-get-end c = part-within (c .before .before .before .before .before .before .before .args .key-id) _ _ (c .before .before .key-digits .ensures) (c .before .key-name-len .ensures)
+part-get-end c =
+    let len = c .before in
+    let digits = len .before in
+    let id = digits .before .before .before .before .before .args .key-id in
+    part-within id _ _ (digits .key-digits .ensures) (len .key-name-len .ensures)
 
 get-requires : tie.Need-get-requires
 get-requires c κs = search needs
@@ -31,9 +35,12 @@ same-length c = search needs
 
 returns : tie.Need-returns
 returns c =
-    let a = c .before .before .before .before .before .before .before .before .before .before .before .before .args in
-    c .before .before .get .ensures
-    ∙ ap (λ (n : List ℕ). storeGet (a .kv .now) (a .rbp .now) (a .device-key .now) n 0 (a .file .now) .answer) (name-part (a .key-id) _ _ (c .before .before .before .before .before .before .before .key-digits .ensures) (c .before .before .before .before .before .before .key-name-len .ensures))
+    let get = c .before .before in
+    let len = get .before .before .before .before in
+    let digits = len .before in
+    let a = digits .before .before .before .before .before .args in
+    let name = name-part (a .key-id) _ _ (digits .key-digits .ensures) (len .key-name-len .ensures) in
+    get .get .ensures ∙ ap (λ (n : List ℕ). storeGet (a .kv .now) (a .rbp .now) (a .device-key .now) n 0 (a .file .now) .answer) name
 
 pub get-key-spec : {M : Type 1} → statement M
 get-key-spec =

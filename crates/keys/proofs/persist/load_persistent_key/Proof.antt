@@ -1,14 +1,17 @@
 -- `keys::persist::load_persistent_key`: as get into an array of its own, then 13, then the file at the front of the buffer.
-use mathlib.Core.Path.{sym, ap, _∙_}
-use mathlib.Core.List.{[], _∷_}
+use mathlib.Core.Path.{_≡_, sym, ap, _∙_}
+use mathlib.Core.List.{List, [], _∷_}
+use Prim.Native.Nat.{ℕ}
 use native.Mathlib.Omega.{arith}
+use lib.ListN.{length, length-take}
+use lib.Seq.{length-take-le}
 use borrow.Author.Needs.{needs}
 use Rattle.keys.specs.KeyFile.{parseKeyFile}
 use Rattle.keys.specs.declared.key_file.KeyFile.{KeyFile}
 use Rattle.spec.specs.Status.{firstOf, Answer}
 use Rattle.keys.specs.Calls.{keyFileAnswer, keyRecord, fileOf, loadTests, loadKey}
-use Rattle.keys.proofs.Written.{answer-refused, answer-done}
-use Rattle.keys.proofs.Loaded.{short-buffer, not-got, not-a-file, loads, count-fits, file-valid, file-invalid, part, part-length, part-most, in-front}
+use Rattle.keys.proofs.Written.{answer-refused, answer-done, short-buffer}
+use Rattle.keys.proofs.Loaded.{not-got, not-a-file, loads, count-fits, file-valid, file-invalid, part, in-front}
 use Rattle.keys.proofs.persist.load_persistent_key.Statement.{statement}
 use Rattle.keys.proofs.persist.load_persistent_key.Tie as tie
 
@@ -16,10 +19,11 @@ refused-requires : tie.Need-refused-requires
 refused-requires c κs = search needs
 
 returns : tie.Need-returns
-unfolding loadKey
+unfolding loadKey loadTests
 returns c =
-    let a = c .before .before .before .before .before .before .args in
-    rw (c .refused .ensures) (answer-refused 1 _ _ (a .key-buf .now) (short-buffer (a .kv .now) (a .rbp .now) (a .device-key .now) (a .key-id) (a .key-buf .now) (c .before .if1 .taken)) (omega arith))
+    let test = c .before in
+    let buf = test .before .before .before .before .before .args .key-buf .now in
+    rw (c .refused .ensures) (answer-refused 1 _ _ buf (short-buffer buf _ (test .if1 .taken)) (omega arith))
 
 slice-aggregate-get-key : tie.Need-slice-aggregate-get-key
 slice-aggregate-get-key c = search needs
@@ -33,12 +37,16 @@ refused-requires-2 c κs = search needs
 returns-2 : tie.Need-returns-2
 unfolding loadKey keyRecord
 returns-2 c =
-    let a = c .before .before .before .before .before .before .before .before .before .before .before .args in
-    let r = c .before .before .before .before .get-key .result in
-    let f = c .before .before .before .before .get-key .last .1 .1 .1 .1 .0 in
-    let b = a .key-buf .now in
-    let g : Answer = record { status = r .status; numbers = r .count ∷ []; output = f } in
-    rw (c .refused2 .ensures) (answer-refused (r .status) _ _ b (not-got (a .kv .now) (a .rbp .now) (a .device-key .now) (a .key-id) b (c .before .before .before .before .before .before .if1 .left) g (c .before .before .before .before .get-key .ensures) (c .before .if2 .taken)) (c .before .if2 .taken))
+    let failed = c .before .if2 .taken in
+    let got = c .before .before .before .before in
+    let a = got .before .before .before .before .before .before .before .args in
+    let r = got .get-key .result in
+    let file = got .get-key .last .1 .1 .1 .1 .0 in
+    let g : Answer = record { status = r .status; numbers = r .count ∷ []; output = file } in
+    let buf = a .key-buf .now in
+    let room = got .before .before .if1 .left in
+    let refused = not-got (a .kv .now) (a .rbp .now) (a .device-key .now) (a .key-id) buf room g (got .get-key .ensures) failed in
+    rw (c .refused2 .ensures) (answer-refused (r .status) _ _ buf refused failed)
 
 sub-parse-key-file : tie.Need-sub-parse-key-file
 sub-parse-key-file c = search needs
@@ -49,12 +57,12 @@ part-parse-key-file-start c = search needs
 part-parse-key-file-end : tie.Need-part-parse-key-file-end
 unfolding keyRecord
 part-parse-key-file-end c =
-    let a = c .before .before .before .before .before .before .before .before .before .before .before .args in
-    let r = c .before .before .before .before .get-key .result in
-    let f = c .before .before .before .before .get-key .last .1 .1 .1 .1 .0 in
-    let b = a .key-buf .now in
-    let g : Answer = record { status = r .status; numbers = r .count ∷ []; output = f } in
-    let n = count-fits (a .kv .now) (a .rbp .now) (a .device-key .now) (a .key-id) g (c .before .before .before .before .get-key .ensures) in
+    let got = c .before .before .before .before in
+    let a = got .before .before .before .before .before .before .before .args in
+    let r = got .get-key .result in
+    let file = got .get-key .last .1 .1 .1 .1 .0 in
+    let g : Answer = record { status = r .status; numbers = r .count ∷ []; output = file } in
+    let fits = count-fits (a .kv .now) (a .rbp .now) (a .device-key .now) (a .key-id) g (got .get-key .ensures) in
     search needs
 
 parse-key-file-requires : tie.Need-parse-key-file-requires
@@ -66,14 +74,20 @@ refused-requires-3 c κs = search needs
 returns-3 : tie.Need-returns-3
 unfolding loadKey keyRecord
 returns-3 c =
-    let a = c .before .before .before .before .before .before .before .before .before .before .before .before .before .before .before .before .args in
-    let r = c .before .before .before .before .before .before .before .before .before .get-key .result in
-    let f = c .before .before .before .before .before .before .before .before .before .get-key .last .1 .1 .1 .1 .0 in
-    let b = a .key-buf .now in
-    let g : Answer = record { status = r .status; numbers = r .count ∷ []; output = f } in
-    let q = c .before .before .before .parse-key-file .ensures ∙ ap parseKeyFile (part (r .count) f) in
-    let v = file-invalid (fileOf g) (λ z. c .before .if3 .taken (ap (λ (x : KeyFile). x .status) q ∙ z)) in
-    rw (c .refused3 .ensures) (answer-refused 13 _ _ b (not-a-file (a .kv .now) (a .rbp .now) (a .device-key .now) (a .key-id) b (c .before .before .before .before .before .before .before .before .before .before .before .if1 .left) g (c .before .before .before .before .before .before .before .before .before .get-key .ensures) (c .before .before .before .before .before .before .if2 .left) v) (omega arith))
+    let test = c .before in
+    let parsed = test .before .before in
+    let ok = parsed .before .before .before in
+    let got = ok .before .before .before in
+    let a = got .before .before .before .before .before .before .before .args in
+    let r = got .get-key .result in
+    let file = got .get-key .last .1 .1 .1 .1 .0 in
+    let g : Answer = record { status = r .status; numbers = r .count ∷ []; output = file } in
+    let buf = a .key-buf .now in
+    let room = got .before .before .if1 .left in
+    let judged = parsed .parse-key-file .ensures ∙ ap parseKeyFile (part (r .count) file) in
+    let invalid = file-invalid (fileOf g) (λ z. test .if3 .taken (ap (λ (x : KeyFile). x .status) judged ∙ z)) in
+    let refused = not-a-file (a .kv .now) (a .rbp .now) (a .device-key .now) (a .key-id) buf room g (got .get-key .ensures) (ok .if2 .left) invalid in
+    rw (c .refused3 .ensures) (answer-refused 13 _ _ buf refused (omega arith))
 
 sub-paste : tie.Need-sub-paste
 sub-paste c = search needs
@@ -84,24 +98,26 @@ part-paste-start c = search needs
 part-paste-end : tie.Need-part-paste-end
 unfolding keyRecord
 part-paste-end c =
-    let a = c .before .before .before .before .before .before .before .before .before .before .before .before .before .before .before .before .before .args in
-    let r = c .before .before .before .before .before .before .before .before .before .before .get-key .result in
-    let f = c .before .before .before .before .before .before .before .before .before .before .get-key .last .1 .1 .1 .1 .0 in
-    let b = a .key-buf .now in
-    let g : Answer = record { status = r .status; numbers = r .count ∷ []; output = f } in
-    let n = count-fits (a .kv .now) (a .rbp .now) (a .device-key .now) (a .key-id) g (c .before .before .before .before .before .before .before .before .before .before .get-key .ensures) in
+    let got = c .before .before .before .before .before .before .before .before .before .before in
+    let a = got .before .before .before .before .before .before .before .args in
+    let r = got .get-key .result in
+    let file = got .get-key .last .1 .1 .1 .1 .0 in
+    let g : Answer = record { status = r .status; numbers = r .count ∷ []; output = file } in
+    let fits = count-fits (a .kv .now) (a .rbp .now) (a .device-key .now) (a .key-id) g (got .get-key .ensures) in
     search needs
 
 paste-requires : tie.Need-paste-requires
 unfolding keyRecord
 paste-requires c κs =
-    let a = c .before .before .before .before .before .before .before .before .before .before .before .before .before .before .before .before .before .before .args in
-    let r = c .before .before .before .before .before .before .before .before .before .before .before .get-key .result in
-    let f = c .before .before .before .before .before .before .before .before .before .before .before .get-key .last .1 .1 .1 .1 .0 in
-    let b = a .key-buf .now in
-    let g : Answer = record { status = r .status; numbers = r .count ∷ []; output = f } in
-    let n = count-fits (a .kv .now) (a .rbp .now) (a .device-key .now) (a .key-id) g (c .before .before .before .before .before .before .before .before .before .before .before .get-key .ensures) in
-    omega (arith, n, part-most (r .count) f, c .before .before .before .before .before .before .before .before .before .before .before .before .before .if1 .left)
+    let got = c .before .before .before .before .before .before .before .before .before .before .before in
+    let a = got .before .before .before .before .before .before .before .args in
+    let r = got .get-key .result in
+    let file = got .get-key .last .1 .1 .1 .1 .0 in
+    let g : Answer = record { status = r .status; numbers = r .count ∷ []; output = file } in
+    let fits = count-fits (a .kv .now) (a .rbp .now) (a .device-key .now) (a .key-id) g (got .get-key .ensures) in
+    let size = ap (λ (l : List ℕ). length l) (part (r .count) file) ∙ length-take (r .count) file in
+    let room = got .before .before .if1 .left in
+    omega (arith, fits, size, room)
 
 same-length : tie.Need-same-length
 same-length c = search needs
@@ -109,17 +125,25 @@ same-length c = search needs
 returns-4 : tie.Need-returns-4
 unfolding loadKey keyRecord
 returns-4 c =
-    let a = c .before .before .before .before .before .before .before .before .before .before .before .before .before .before .before .before .before .before .before .before .before .args in
-    let r = c .before .before .before .before .before .before .before .before .before .before .before .before .before .before .get-key .result in
-    let f = c .before .before .before .before .before .before .before .before .before .before .before .before .before .before .get-key .last .1 .1 .1 .1 .0 in
-    let b = a .key-buf .now in
-    let g : Answer = record { status = r .status; numbers = r .count ∷ []; output = f } in
-    let n = count-fits (a .kv .now) (a .rbp .now) (a .device-key .now) (a .key-id) g (c .before .before .before .before .before .before .before .before .before .before .before .before .before .before .get-key .ensures) in
-    let q = c .before .before .before .before .before .before .before .before .parse-key-file .ensures ∙ ap parseKeyFile (part (r .count) f) in
-    let v = file-valid (fileOf g) (sym (ap (λ (x : KeyFile). x .status) q) ∙ c .before .before .before .before .before .before .if3 .left) in
-    let o = in-front _ (fileOf g) b _ (c .before .before .paste .ensures) (part (r .count) f) in
-    answer-done _ (r .count) (fileOf g) b _ (loads (a .kv .now) (a .rbp .now) (a .device-key .now) (a .key-id) b (c .before .before .before .before .before .before .before .before .before .before .before .before .before .before .before .before .if1 .left) g (c .before .before .before .before .before .before .before .before .before .before .before .before .before .before .get-key .ensures) (c .before .before .before .before .before .before .before .before .before .before .before .if2 .left) v) (part-length (r .count) f (omega arith)) o
-    ∙ ap (λ (x : Answer). keyFileAnswer (firstOf (loadTests (a .kv .now) (a .rbp .now) (a .device-key .now) (a .key-id) b)) (fileOf x) b) (c .before .before .before .before .before .before .before .before .before .before .before .before .before .before .get-key .ensures)
+    let pasted = c .before .before in
+    let test = pasted .before .before .before .before in
+    let parsed = test .before .before in
+    let ok = parsed .before .before .before in
+    let got = ok .before .before .before in
+    let a = got .before .before .before .before .before .before .before .args in
+    let r = got .get-key .result in
+    let file = got .get-key .last .1 .1 .1 .1 .0 in
+    let g : Answer = record { status = r .status; numbers = r .count ∷ []; output = file } in
+    let fits = count-fits (a .kv .now) (a .rbp .now) (a .device-key .now) (a .key-id) g (got .get-key .ensures) in
+    let buf = a .key-buf .now in
+    let room = got .before .before .if1 .left in
+    let judged = parsed .parse-key-file .ensures ∙ ap parseKeyFile (part (r .count) file) in
+    let valid = file-valid (fileOf g) (sym (ap (λ (x : KeyFile). x .status) judged) ∙ test .if3 .left) in
+    let done = loads (a .kv .now) (a .rbp .now) (a .device-key .now) (a .key-id) buf room g (got .get-key .ensures) (ok .if2 .left) valid in
+    let out = in-front _ (fileOf g) buf _ (pasted .paste .ensures) (part (r .count) file) in
+    let count : r .count ≡ length (fileOf g) = sym (length-take-le (r .count) file (omega arith)) in
+    let status = firstOf (loadTests (a .kv .now) (a .rbp .now) (a .device-key .now) (a .key-id) buf) in
+    answer-done status (r .count) (fileOf g) buf _ done count out ∙ ap (λ (x : Answer). keyFileAnswer status (fileOf x) buf) (got .get-key .ensures)
 
 pub load-persistent-key-spec : {M : Type 1} → statement M
 load-persistent-key-spec =

@@ -14,7 +14,9 @@ use Rattle.keys.proofs.persist.save_persistent_key.Tie as tie
 
 returns : tie.Need-returns
 unfolding saveKey
-returns c = rw (lt-leb (length (c .before .before .before .before .before .before .args .material .now)) 444 (c .if1 .taken))
+returns c =
+    let a = c .before .before .before .before .before .before .args in
+    rw (lt-leb (length (a .material .now)) 444 (c .if1 .taken))
 
 slice-aggregate-put-key-file : tie.Need-slice-aggregate-put-key-file
 slice-aggregate-put-key-file c = search needs
@@ -46,11 +48,15 @@ same-length-2 c = search needs
 returns-2 : tie.Need-returns-2
 unfolding saveKey
 returns-2 c =
-    let a = c .before .before .before .before .before .before .before .before .before .before .before .before .before .before .before .before .before .before .args in
+    let set = c .before .before .before .before in
+    let put = set .before .before .before .before .before .before in
+    let test = put .before .before in
+    let a = test .before .before .before .before .before .before .args in
     let m = a .material .now in
-    rw (le-leb (length m) 444 (c .before .before .before .before .before .before .before .before .before .before .before .before .if1 .left))
-    (c .before .before .before .before .set-key .ensures
-    ∙ ap (λ (f : List ℕ). storeSet (a .kv .now) (a .rbp .now) (a .device-key .now) (keyName (a .key-id)) (a .flags) (a .iv .now) f) (file-part (a .attributes) m _ _ (c .before .before .before .before .before .before .before .before .before .before .put-key-file .ensures)))
+    let part = file-part (a .attributes) m _ _ (put .put-key-file .ensures) in
+    rw (le-leb (length m) 444 (test .if1 .left))
+    (set .set-key .ensures
+    ∙ ap (λ (f : List ℕ). storeSet (a .kv .now) (a .rbp .now) (a .device-key .now) (keyName (a .key-id)) (a .flags) (a .iv .now) f) part)
 
 pub save-persistent-key-spec : {M : Type 1} → statement M
 save-persistent-key-spec =

@@ -21,7 +21,11 @@ part-set-start : tie.Need-part-set-start
 part-set-start c = search needs
 
 part-set-end : tie.Need-part-set-end
-part-set-end c = part-within (c .before .before .before .before .before .before .before .before .before .before .args .key-id) _ _ (c .before .before .before .before .key-digits .ensures) (c .before .before .before .key-name-len .ensures)
+part-set-end c =
+    let len = c .before .before .before in
+    let digits = len .before in
+    let id = digits .before .before .before .before .before .before .args .key-id in
+    part-within id _ _ (digits .key-digits .ensures) (len .key-name-len .ensures)
 
 set-requires : tie.Need-set-requires
 set-requires c κs = search needs
@@ -34,9 +38,13 @@ same-length-2 c = search needs
 
 returns : tie.Need-returns
 returns c =
-    let a = c .before .before .before .before .before .before .before .before .before .before .before .before .before .before .before .before .args in
-    c .before .before .before .before .set .ensures
-    ∙ ap (λ (n : List ℕ). storeSet (a .kv .now) (a .rbp .now) (a .device-key .now) n (a .flags) (a .iv .now) (a .file .now)) (name-part (a .key-id) _ _ (c .before .before .before .before .before .before .before .before .before .before .key-digits .ensures) (c .before .before .before .before .before .before .before .before .before .key-name-len .ensures))
+    let set = c .before .before .before .before in
+    let len = set .before .before .before .before .before in
+    let digits = len .before in
+    let a = digits .before .before .before .before .before .before .args in
+    let name = name-part (a .key-id) _ _ (digits .key-digits .ensures) (len .key-name-len .ensures) in
+    set .set .ensures
+    ∙ ap (λ (n : List ℕ). storeSet (a .kv .now) (a .rbp .now) (a .device-key .now) n (a .flags) (a .iv .now) (a .file .now)) name
 
 pub set-key-spec : {M : Type 1} → statement M
 set-key-spec =

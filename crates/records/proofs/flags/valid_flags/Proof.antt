@@ -14,12 +14,17 @@ require-integrity-requires c κs = search needs
 returns : tie.Need-returns
 unfolding validFlags
 returns c =
-    rw (lt-ltb _ _ (c .before .before .if1 .taken), ← (c .before .require-replay-protection .ensures), c .if2 .taken)
+    let require-replay-protection = c .before .require-replay-protection in
+    let if1 = c .before .before .if1 in
+    rw (lt-ltb _ _ (if1 .taken), ← (require-replay-protection .ensures), c .if2 .taken)
 
 returns-2 : tie.Need-returns-2
 unfolding validFlags
 returns-2 c =
-    rw (lt-ltb _ _ (c .before .before .before .if1 .taken), ← (c .before .before .require-replay-protection .ensures), c .before .if2 .left) (c .require-integrity .ensures)
+    let if2 = c .before .if2 in
+    let require-replay-protection = c .before .before .require-replay-protection in
+    let if1 = c .before .before .before .if1 in
+    rw (lt-ltb _ _ (if1 .taken), ← (require-replay-protection .ensures), if2 .left) (c .require-integrity .ensures)
 
 returns-3 : tie.Need-returns-3
 unfolding validFlags

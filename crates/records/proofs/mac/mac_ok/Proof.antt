@@ -5,17 +5,23 @@ use native.Mathlib.Omega.{arith}
 use lib.ListN.{length}
 use lib.Seq.{length-take-le}
 use borrow.Author.Needs.{needs}
-use Rattle.spec.specs.Bytes.{bytesEq}
+use Rattle.buffers.specs.Bytes.{bytesEq}
 use Rattle.spec.specs.Record.{macOk}
-use Rattle.records.proofs.Valid.{valid-sized, tag-length, cmac-over-length, covered-cmac}
+use Rattle.spec.proofs.Record.{valid-record, valid-tag-length}
+use Rattle.records.proofs.Valid.{cmac-over-length, covered-cmac}
 use Rattle.records.proofs.mac.mac_ok.Statement.{statement}
 use Rattle.records.proofs.mac.mac_ok.Tie as tie
 
 sub-end : tie.Need-sub-end
-sub-end c = let s = valid-sized (c .before .before .args .r .now) (c .before .before .pre) in omega arith
+sub-end c =
+    let start = c .before .before in
+    let valid = valid-record (start .args .r .now) (start .pre) in
+    omega arith
 
 slice-aggregate-record-cmac : tie.Need-slice-aggregate-record-cmac
-slice-aggregate-record-cmac c = let r = c .before .before .before .args .r .now in sym (length-take-le (length r - 16) r (omega arith))
+slice-aggregate-record-cmac c =
+    let r = c .before .before .before .args .r .now in
+    sym (length-take-le (length r - 16) r (omega arith))
 
 record-cmac-requires : tie.Need-record-cmac-requires
 record-cmac-requires c κs = search needs
@@ -28,15 +34,23 @@ record-tag-requires c κs = search needs
 
 tags-equal-ct-requires : tie.Need-tags-equal-ct-requires
 tags-equal-ct-requires c κs =
-    (ap length (c .before .before .record-cmac .ensures) ∙ cmac-over-length _ _ _, ap length (c .record-tag .ensures) ∙ tag-length _ (valid-sized (c .before .before .before .before .before .before .args .r .now) (c .before .before .before .before .before .before .pre)))
+    let record-cmac = c .before .before .record-cmac in
+    let start = c .before .before .before .before .before .before in
+    let r = start .args .r .now in
+    let of-cmac = ap length (record-cmac .ensures) ∙ cmac-over-length _ _ _ in
+    let of-tag = ap length (c .record-tag .ensures) ∙ valid-tag-length r (valid-record r (start .pre)) in
+    (of-cmac, of-tag)
 
 returns : tie.Need-returns
 unfolding macOk
 returns c =
-    let a = c .before .before .before .before .before .before .before .args in
-    let r = a .r .now in
-    c .tags-equal-ct .ensures
-    ∙ ap₂ bytesEq (c .before .before .before .record-cmac .ensures ∙ covered-cmac (a .device-key) (a .name .now) r (valid-sized r (c .before .before .before .before .before .before .before .pre))) (c .before .record-tag .ensures)
+    let record-tag = c .before .record-tag in
+    let record-cmac = c .before .before .before .record-cmac in
+    let start = c .before .before .before .before .before .before .before in
+    let args = start .args in
+    let r = args .r .now in
+    let cmac = record-cmac .ensures ∙ covered-cmac (args .device-key) (args .name .now) r (valid-record r (start .pre)) in
+    c .tags-equal-ct .ensures ∙ ap₂ bytesEq cmac (record-tag .ensures)
 
 pub mac-ok-spec : {M : Type 1} → statement M
 mac-ok-spec =

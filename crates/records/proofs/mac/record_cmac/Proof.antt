@@ -18,8 +18,10 @@ cmac-tag-parts-requires c κs = search needs
 returns : tie.Need-returns
 unfolding cmacOver authKey
 returns c =
-    let a = c .before .before .before .before .args in
-    c .cmac-tag-parts .ensures ∙ ap (λ (k : List ℕ). cmac k (a .name .now ++ a .covered .now)) (c .before .derive-authentication-key .ensures)
+    let derive-authentication-key = c .before .derive-authentication-key in
+    let args = c .before .before .before .before .args in
+    let tag : List ℕ → List ℕ = λ k. cmac k (args .name .now ++ args .covered .now) in
+    c .cmac-tag-parts .ensures ∙ ap tag (derive-authentication-key .ensures)
 
 pub record-cmac-spec : {M : Type 1} → statement M
 record-cmac-spec =

@@ -2,13 +2,16 @@
 use native.Mathlib.Omega.{arith}
 use lib.ListN.{length-take, length-drop}
 use borrow.Author.Needs.{needs}
-use Rattle.records.proofs.Valid.{valid-sized}
+use Rattle.spec.proofs.Record.{valid-record}
 use Rattle.records.proofs.Sealed.{opened-steps}
 use Rattle.records.proofs.open.open_into.Statement.{statement}
 use Rattle.records.proofs.open.open_into.Tie as tie
 
 sub-end : tie.Need-sub-end
-sub-end c = let s = valid-sized (c .before .before .before .args .r .now) (c .before .before .before .pre .0) in omega arith
+sub-end c =
+    let start = c .before .before .before in
+    let valid = valid-record (start .args .r .now) (start .pre .0) in
+    omega arith
 
 record-flags-requires : tie.Need-record-flags-requires
 record-flags-requires c κs = search needs
@@ -20,32 +23,49 @@ part-array8-start : tie.Need-part-array8-start
 part-array8-start c = search needs
 
 part-array8-end : tie.Need-part-array8-end
-part-array8-end c = let s = valid-sized (c .before .before .before .before .args .r .now) (c .before .before .before .before .pre .0) in omega arith
+part-array8-end c =
+    let start = c .before .before .before .before in
+    let valid = valid-record (start .args .r .now) (start .pre .0) in
+    omega arith
 
 array8-requires : tie.Need-array8-requires
 array8-requires c κs = search needs
 
 sub-put-crypted : tie.Need-sub-put-crypted
-sub-put-crypted c = let s = valid-sized (c .before .before .before .before .before .before .args .r .now) (c .before .before .before .before .before .before .pre .0) in omega arith
+sub-put-crypted c =
+    let start = c .before .before .before .before .before .before in
+    let valid = valid-record (start .args .r .now) (start .pre .0) in
+    omega arith
 
 part-put-crypted-start : tie.Need-part-put-crypted-start
-part-put-crypted-start c = let s = valid-sized (c .before .before .before .before .before .before .args .r .now) (c .before .before .before .before .before .before .pre .0) in omega arith
+part-put-crypted-start c =
+    let start = c .before .before .before .before .before .before in
+    let valid = valid-record (start .args .r .now) (start .pre .0) in
+    omega arith
 
 part-put-crypted-end : tie.Need-part-put-crypted-end
 part-put-crypted-end c = search needs
 
 put-crypted-requires : tie.Need-put-crypted-requires
-put-crypted-requires c κs = let s = valid-sized (c .before .before .before .before .before .before .before .before .args .r .now) (c .before .before .before .before .before .before .before .before .pre .0) in simp (length-take, length-drop) (omega arith)
+put-crypted-requires c κs =
+    let start = c .before .before .before .before .before .before .before .before in
+    let valid = valid-record (start .args .r .now) (start .pre .0) in
+    simp (length-take, length-drop) (omega arith)
 
 same-length : tie.Need-same-length
 same-length c = search needs
 
 returns : tie.Need-returns
 returns c =
+    let put-crypted = c .before .before .put-crypted in
+    let array8 = c .before .before .before .before .before .array8 in
+    let record-flags = c .before .before .before .before .before .before .before .record-flags in
     let start = c .before .before .before .before .before .before .before .before .before .before .before in
-    let a = start .args in
-    opened-steps (a .device-key) (a .name .now) (a .r .now) (valid-sized (a .r .now) (start .pre .0)) (a .value .now) _ _ _
-    (c .before .before .before .before .before .before .before .record-flags .ensures) (c .before .before .before .before .before .array8 .ensures) (c .before .before .put-crypted .ensures)
+    let args = start .args in
+    let r = args .r .now in
+    let valid = valid-record r (start .pre .0) in
+    opened-steps (args .device-key) (args .name .now) r valid (args .value .now) _ _ _
+    (record-flags .ensures) (array8 .ensures) (put-crypted .ensures)
 
 pub open-into-spec : {M : Type 1} → statement M
 open-into-spec =

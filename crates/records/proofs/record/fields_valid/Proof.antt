@@ -5,17 +5,17 @@ use Rattle.records.specs.Parts.{fieldsValid}
 use Rattle.records.proofs.record.fields_valid.Statement.{statement}
 use Rattle.records.proofs.record.fields_valid.Tie as tie
 
-u32-at-requires : tie.Need-u32-at-requires
-u32-at-requires c κs = search needs
+le-at-requires : tie.Need-le-at-requires
+le-at-requires c κs = search needs
 
-u16-at-requires : tie.Need-u16-at-requires
-u16-at-requires c κs = search needs
+le-at-requires-2 : tie.Need-le-at-requires-2
+le-at-requires-2 c κs = search needs
 
-u16-at-requires-2 : tie.Need-u16-at-requires-2
-u16-at-requires-2 c κs = search needs
+le-at-requires-3 : tie.Need-le-at-requires-3
+le-at-requires-3 c κs = search needs
 
-u32-at-requires-2 : tie.Need-u32-at-requires-2
-u32-at-requires-2 c κs = search needs
+le-at-requires-4 : tie.Need-le-at-requires-4
+le-at-requires-4 c κs = search needs
 
 valid-flags-requires : tie.Need-valid-flags-requires
 valid-flags-requires c κs = search needs
@@ -29,72 +29,90 @@ add-result c = search needs
 returns : tie.Need-returns
 unfolding fieldsValid
 returns c =
+    let if3 = c .before .if3 in
+    let valid-flags = c .before .before .valid-flags in
+    let le-at4 = c .before .before .before .le-at4 in
+    let if2 = c .before .before .before .before .if2 in
+    let le-at3 = c .before .before .before .before .before .le-at3 in
+    let if1 = c .before .before .before .before .before .before .if1 in
+    let le-at2 = c .before .before .before .before .before .before .before .le-at2 in
+    let le-at = c .before .before .before .before .before .before .before .before .le-at in
     rw (
-      ← (c .before .before .before .before .before .before .before .before .u32-at .ensures),
-      ← (c .before .before .before .before .before .before .before .u16-at .ensures),
-      ← (c .before .before .before .before .before .u16-at2 .ensures),
-      eq-eqb _ _ (c .before .before .before .before .before .before .if1 .taken),
-      eq-eqb _ _ (c .before .before .before .before .if2 .taken),
-      ← (c .before .before .before .u32-at2 .ensures),
-      ← (c .before .before .valid-flags .ensures),
-      c .before .if3 .taken,
+      ← (le-at .ensures),
+      ← (le-at2 .ensures),
+      ← (le-at3 .ensures),
+      eq-eqb _ _ (if1 .taken),
+      eq-eqb _ _ (if2 .taken),
+      ← (le-at4 .ensures),
+      ← (valid-flags .ensures),
+      if3 .taken,
       le-leb _ _ (c .if4 .taken),
     )
 
 returns-2 : tie.Need-returns-2
 unfolding fieldsValid
 returns-2 c =
+    let if3 = c .before .if3 in
+    let valid-flags = c .before .before .valid-flags in
+    let le-at4 = c .before .before .before .le-at4 in
+    let if2 = c .before .before .before .before .if2 in
+    let le-at3 = c .before .before .before .before .before .le-at3 in
+    let if1 = c .before .before .before .before .before .before .if1 in
+    let le-at2 = c .before .before .before .before .before .before .before .le-at2 in
+    let le-at = c .before .before .before .before .before .before .before .before .le-at in
     rw (
-      ← (c .before .before .before .before .before .before .before .before .u32-at .ensures),
-      ← (c .before .before .before .before .before .before .before .u16-at .ensures),
-      ← (c .before .before .before .before .before .u16-at2 .ensures),
-      eq-eqb _ _ (c .before .before .before .before .before .before .if1 .taken),
-      eq-eqb _ _ (c .before .before .before .before .if2 .taken),
-      ← (c .before .before .before .u32-at2 .ensures),
-      ← (c .before .before .valid-flags .ensures),
-      c .before .if3 .taken,
+      ← (le-at .ensures),
+      ← (le-at2 .ensures),
+      ← (le-at3 .ensures),
+      eq-eqb _ _ (if1 .taken),
+      eq-eqb _ _ (if2 .taken),
+      ← (le-at4 .ensures),
+      ← (valid-flags .ensures),
+      if3 .taken,
       lt-leb _ _ (c .if4 .left),
     )
 
 returns-3 : tie.Need-returns-3
 unfolding fieldsValid
 returns-3 c =
+    let valid-flags = c .before .valid-flags in
+    let le-at4 = c .before .before .le-at4 in
+    let if2 = c .before .before .before .if2 in
+    let le-at3 = c .before .before .before .before .le-at3 in
+    let if1 = c .before .before .before .before .before .if1 in
+    let le-at2 = c .before .before .before .before .before .before .le-at2 in
     rw (
-      ← (c .before .before .before .before .before .before .u16-at .ensures),
-      ← (c .before .before .before .before .u16-at2 .ensures),
-      eq-eqb _ _ (c .before .before .before .before .before .if1 .taken),
-      eq-eqb _ _ (c .before .before .before .if2 .taken),
-      ← (c .before .before .u32-at2 .ensures),
-      ← (c .before .valid-flags .ensures),
+      ← (le-at2 .ensures),
+      ← (le-at3 .ensures),
+      eq-eqb _ _ (if1 .taken),
+      eq-eqb _ _ (if2 .taken),
+      ← (le-at4 .ensures),
+      ← (valid-flags .ensures),
       c .if3 .left,
     )
 
 returns-4 : tie.Need-returns-4
 unfolding fieldsValid
 returns-4 c =
-    rw (
-      ← (c .before .before .before .u16-at .ensures),
-      ← (c .before .u16-at2 .ensures),
-      eq-eqb _ _ (c .before .before .if1 .taken),
-      ne-eqb _ _ (c .if2 .left),
-    )
+    let le-at3 = c .before .le-at3 in
+    let if1 = c .before .before .if1 in
+    let le-at2 = c .before .before .before .le-at2 in
+    rw (← (le-at2 .ensures), ← (le-at3 .ensures), eq-eqb _ _ (if1 .taken), ne-eqb _ _ (c .if2 .left))
 
 returns-5 : tie.Need-returns-5
 unfolding fieldsValid
 returns-5 c =
-    rw (
-      ← (c .before .u16-at .ensures),
-      ne-eqb _ _ (c .if1 .left),
-    )
+    let le-at2 = c .before .le-at2 in
+    rw (← (le-at2 .ensures), ne-eqb _ _ (c .if1 .left))
 
 pub fields-valid-spec : {M : Type 1} → statement M
 fields-valid-spec =
     tie.close
     (tie.spec
-    u32-at-requires
-    u16-at-requires
-    u16-at-requires-2
-    u32-at-requires-2
+    le-at-requires
+    le-at-requires-2
+    le-at-requires-3
+    le-at-requires-4
     valid-flags-requires
     cast-result
     add-result

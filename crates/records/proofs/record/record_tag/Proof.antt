@@ -1,13 +1,13 @@
 -- `records::record::record_tag`: the last sixteen bytes.
 use native.Mathlib.Omega.{arith}
 use borrow.Author.Needs.{needs}
-use Rattle.records.proofs.Place.{rest-part}
-use Rattle.records.proofs.Valid.{valid-sized}
+use Rattle.buffers.proofs.Lists.{rest-part}
+use Rattle.spec.proofs.Record.{valid-record}
 use Rattle.records.proofs.record.record_tag.Statement.{statement}
 use Rattle.records.proofs.record.record_tag.Tie as tie
 
 sub-at : tie.Need-sub-at
-sub-at c = let s = valid-sized (c .args .r .now) (c .pre) in omega arith
+sub-at c = let valid = valid-record (c .args .r .now) (c .pre) in omega arith
 
 sub-result : tie.Need-sub-result
 sub-result c = search needs

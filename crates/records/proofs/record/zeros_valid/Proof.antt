@@ -4,12 +4,12 @@ use Prim.Native.Nat.{_-_}
 use lib.ListN.{length}
 use borrow.Author.Needs.{needs}
 use Rattle.records.specs.Parts.{zerosValid}
-use Rattle.records.proofs.Place.{rest-part}
+use Rattle.buffers.proofs.Lists.{rest-part}
 use Rattle.records.proofs.record.zeros_valid.Statement.{statement}
 use Rattle.records.proofs.record.zeros_valid.Tie as tie
 
-u32-at-requires : tie.Need-u32-at-requires
-u32-at-requires c κs = search needs
+le-at-requires : tie.Need-le-at-requires
+le-at-requires c κs = search needs
 
 sub-tag : tie.Need-sub-tag
 sub-tag c = search needs
@@ -47,32 +47,35 @@ zero-unless-requires-2 c κs = search needs
 returns : tie.Need-returns
 unfolding zerosValid
 returns c =
+    let require-integrity = c .before .before .require-integrity in
+    let if1 = c .before .before .before .if1 in
+    let zero-unless = c .before .before .before .before .zero-unless in
+    let require-confidentiality = c .before .before .before .before .before .before .require-confidentiality in
+    let le-at = c .before .before .before .before .before .before .before .le-at in
     let r = c .before .before .before .before .before .before .before .before .before .args .r .now in
     c .zero-unless2 .ensures
     ∙ rw (
-      ← (c .before .before .before .before .before .before .before .u32-at .ensures),
-      ← (c .before .before .before .before .before .before .require-confidentiality .ensures),
-      ← (c .before .before .before .before .zero-unless .ensures),
-      c .before .before .before .if1 .taken,
-      ← (c .before .before .require-integrity .ensures),
+      ← (le-at .ensures),
+      ← (require-confidentiality .ensures),
+      ← (zero-unless .ensures),
+      if1 .taken,
+      ← (require-integrity .ensures),
       rest-part r (length r - 16),
     )
 
 returns-2 : tie.Need-returns-2
 unfolding zerosValid
 returns-2 c =
-    rw (
-      ← (c .before .before .before .before .u32-at .ensures),
-      ← (c .before .before .before .require-confidentiality .ensures),
-      ← (c .before .zero-unless .ensures),
-      c .if1 .left,
-    )
+    let zero-unless = c .before .zero-unless in
+    let require-confidentiality = c .before .before .before .require-confidentiality in
+    let le-at = c .before .before .before .before .le-at in
+    rw (← (le-at .ensures), ← (require-confidentiality .ensures), ← (zero-unless .ensures), c .if1 .left)
 
 pub zeros-valid-spec : {M : Type 1} → statement M
 zeros-valid-spec =
     tie.close
     (tie.spec
-    u32-at-requires
+    le-at-requires
     sub-tag
     require-confidentiality-requires
     sub-zero-unless

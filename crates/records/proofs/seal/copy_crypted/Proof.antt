@@ -6,7 +6,7 @@ use native.Mathlib.Omega.{arith}
 use borrow.Author.Needs.{needs}
 use Rattle.cipher.specs.Ctr.{ctr}
 use Rattle.spec.specs.Record.{sealedData, crypt, encKey}
-use Rattle.records.proofs.Place.{copied}
+use Rattle.buffers.proofs.Lists.{copied}
 use Rattle.records.proofs.seal.copy_crypted.Statement.{statement}
 use Rattle.records.proofs.seal.copy_crypted.Tie as tie
 
@@ -28,10 +28,15 @@ same-length c = search needs
 returns : tie.Need-returns
 unfolding sealedData crypt encKey
 returns c =
-    let a = c .before .before .before .before .before .before .before .before .before .before .before .before .before .before .args in
-    let same = c .before .before .before .before .before .before .before .before .before .copy .ensures .1 ∙ copied (a .src .now) _ (omega arith) in
-    rw (← (c .before .before .before .before .before .before .require-confidentiality .ensures), c .before .before .before .before .before .if1 .taken)
-    (c .before .before .ctr-xor .ensures ∙ ap₂ (λ (k v : List ℕ). ctr k (a .iv) v) (c .before .before .before .before .derive-encryption-key .ensures) same)
+    let ctr-xor = c .before .before .ctr-xor in
+    let derive-encryption-key = c .before .before .before .before .derive-encryption-key in
+    let if1 = c .before .before .before .before .before .if1 in
+    let require-confidentiality = c .before .before .before .before .before .before .require-confidentiality in
+    let copy = c .before .before .before .before .before .before .before .before .before .copy in
+    let args = c .before .before .before .before .before .before .before .before .before .before .before .before .before .before .args in
+    let same = copy .ensures .1 ∙ copied (args .src .now) _ (omega arith) in
+    let crypted = ctr-xor .ensures ∙ ap₂ (λ (k v : List ℕ). ctr k (args .iv) v) (derive-encryption-key .ensures) same in
+    rw (← (require-confidentiality .ensures), if1 .taken) crypted
 
 same-length-2 : tie.Need-same-length-2
 same-length-2 c = search needs
@@ -39,8 +44,10 @@ same-length-2 c = search needs
 returns-2 : tie.Need-returns-2
 unfolding sealedData
 returns-2 c =
-    let a = c .before .before .before .before .before .before .before .before .before .args in
-    rw (← (c .before .require-confidentiality .ensures), c .if1 .left) (c .before .before .before .before .copy .ensures .1 ∙ copied (a .src .now) _ (omega arith))
+    let require-confidentiality = c .before .require-confidentiality in
+    let copy = c .before .before .before .before .copy in
+    let args = c .before .before .before .before .before .before .before .before .before .args in
+    rw (← (require-confidentiality .ensures), c .if1 .left) (copy .ensures .1 ∙ copied (args .src .now) _ (omega arith))
 
 pub copy-crypted-spec : {M : Type 1} → statement M
 copy-crypted-spec =

@@ -2,8 +2,8 @@
 use lib.ListN.{length}
 use borrow.Author.Needs.{needs}
 use Rattle.spec.specs.Record.{sealedData}
-use Rattle.records.proofs.Place.{part-back}
-use Rattle.records.proofs.Sealed.{data-length}
+use Rattle.buffers.proofs.Lists.{part-back}
+use Rattle.spec.proofs.Record.{sealedData-length}
 use Rattle.records.proofs.seal.put_crypted.Statement.{statement}
 use Rattle.records.proofs.seal.put_crypted.Tie as tie
 
@@ -27,9 +27,12 @@ same-length c = search needs
 
 returns : tie.Need-returns
 returns c =
-    let a = c .before .before .before .before .before .before .before .args in
-    part-back (a .dst .now) _ (sealedData (a .device-key) (a .name .now) (a .flags) (a .iv) (a .src .now)) (a .at) (length (a .src .now))
-    (c .before .before .copy-crypted .ensures) (data-length (a .device-key) (a .name .now) (a .flags) (a .iv) (a .src .now))
+    let copy-crypted = c .before .before .copy-crypted in
+    let args = c .before .before .before .before .before .before .before .args in
+    let src = args .src .now in
+    let crypted = sealedData (args .device-key) (args .name .now) (args .flags) (args .iv) src in
+    let whole = sealedData-length (args .device-key) (args .name .now) (args .flags) (args .iv) src in
+    part-back (args .dst .now) _ crypted (args .at) (length src) (copy-crypted .ensures) whole
 
 pub put-crypted-spec : {M : Type 1} → statement M
 put-crypted-spec =

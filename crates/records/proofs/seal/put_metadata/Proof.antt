@@ -1,29 +1,28 @@
 -- `records::seal::put_metadata`: each field stands behind the one before it.
-use mathlib.Core.Path.{_≡_, refl, ap, _∙_}
+use mathlib.Core.Path.{refl, ap, _∙_}
 use mathlib.Core.List.{List, _++_}
 use Prim.Native.Nat.{ℕ, _+_}
 use lib.ListN.{drop}
 use mir.Syntax.{w8}
 use borrow.Author.Needs.{needs}
 use borrow.Kind.Array.{eInt, good-length}
-use Rattle.spec.specs.Bytes.{leBytes}
 use Rattle.spec.specs.Record.{metadata}
-use Rattle.records.specs.Parts.{putAt}
-use Rattle.records.proofs.Place.{put-next}
+use Rattle.buffers.specs.Bytes.{leBytes, putAt}
+use Rattle.buffers.proofs.Lists.{put-next}
 use Rattle.records.proofs.seal.put_metadata.Statement.{statement}
 use Rattle.records.proofs.seal.put_metadata.Tie as tie
 
-put-u16-requires : tie.Need-put-u16-requires
-put-u16-requires c κs = search needs
+put-le-at-requires : tie.Need-put-le-at-requires
+put-le-at-requires c κs = search needs
 
-put-u16-requires-2 : tie.Need-put-u16-requires-2
-put-u16-requires-2 c κs = search needs
+put-le-at-requires-2 : tie.Need-put-le-at-requires-2
+put-le-at-requires-2 c κs = search needs
 
-put-u32-requires : tie.Need-put-u32-requires
-put-u32-requires c κs = search needs
+put-le-at-requires-3 : tie.Need-put-le-at-requires-3
+put-le-at-requires-3 c κs = search needs
 
-put-u32-requires-2 : tie.Need-put-u32-requires-2
-put-u32-requires-2 c κs = search needs
+put-le-at-requires-4 : tie.Need-put-le-at-requires-4
+put-le-at-requires-4 c κs = search needs
 
 slice-aggregate-paste : tie.Need-slice-aggregate-paste
 slice-aggregate-paste c = search needs
@@ -37,27 +36,34 @@ same-length c = search needs
 returns : tie.Need-returns
 unfolding metadata
 returns c =
-    let start = c .before .before .before .before .before .before .before .before .before .before .before .before .before .before .before .before .before .before .before .before .before .before in
+    let at-iv = c .before .before in
+    let at-flags = at-iv .before .before .before .before .before in
+    let at-size = at-flags .before .before .before .before in
+    let at-revision = at-size .before .before .before .before in
+    let at-first = at-revision .before .before .before .before in
+    let start = at-first .before .before .before in
     let a = start .args in
     let d = a .dst .now in
     let iv-sized = good-length (eInt w8) 8 (a .t3) _ (start .good .1 .1 .0) in
-    let f1 = leBytes 2 20 in
-    let f2 = f1 ++ leBytes 2 1 in
-    let f3 = f2 ++ leBytes 4 (a .data-size) in
-    let f4 = f3 ++ leBytes 4 (a .flags) in
-    let w2 : c .before .before .before .before .before .before .before .before .before .before .before .before .before .before .before .put-u162 .last .1 .0 ≡ f2 ++ drop 4 d = c .before .before .before .before .before .before .before .before .before .before .before .before .before .before .before .put-u162 .ensures ∙ ap (λ (l : List ℕ). putAt l 2 (leBytes 2 1)) (c .before .before .before .before .before .before .before .before .before .before .before .before .before .before .before .before .before .before .before .put-u16 .ensures) ∙ put-next d f1 (leBytes 2 1) 2 refl in
-    let w3 : c .before .before .before .before .before .before .before .before .before .before .before .put-u32 .last .1 .0 ≡ f3 ++ drop 8 d = c .before .before .before .before .before .before .before .before .before .before .before .put-u32 .ensures ∙ ap (λ (l : List ℕ). putAt l 4 (leBytes 4 (a .data-size))) w2 ∙ put-next d f2 (leBytes 4 (a .data-size)) 4 refl in
-    let w4 : c .before .before .before .before .before .before .before .put-u322 .last .1 .0 ≡ f4 ++ drop 12 d = c .before .before .before .before .before .before .before .put-u322 .ensures ∙ ap (λ (l : List ℕ). putAt l 8 (leBytes 4 (a .flags))) w3 ∙ put-next d f3 (leBytes 4 (a .flags)) 8 refl in
-    c .before .before .paste .ensures ∙ ap (λ (l : List ℕ). putAt l 12 (a .t3)) w4 ∙ put-next d f4 (a .t3) 12 refl ∙ ap (λ (k : ℕ). (f4 ++ a .t3) ++ drop (12 + k) d) iv-sized
+    let size = leBytes 4 (a .data-size) in
+    let flags = leBytes 4 (a .flags) in
+    let f2 = leBytes 2 20 ++ leBytes 2 1 in
+    let over : (at : ℕ) (s : List ℕ) → List ℕ → List ℕ = λ at s l. putAt l at s in
+    let w2 = at-revision .put-le-at2 .ensures ∙ ap (over 2 (leBytes 2 1)) (at-first .put-le-at .ensures) ∙ put-next d (leBytes 2 20) (leBytes 2 1) 2 refl in
+    let w3 = at-size .put-le-at3 .ensures ∙ ap (over 4 size) w2 ∙ put-next d f2 size 4 refl in
+    let w4 = at-flags .put-le-at4 .ensures ∙ ap (over 8 flags) w3 ∙ put-next d (f2 ++ size) flags 8 refl in
+    let f4 = (f2 ++ size) ++ flags in
+    let w5 = at-iv .paste .ensures ∙ ap (over 12 (a .t3)) w4 ∙ put-next d f4 (a .t3) 12 refl in
+    w5 ∙ ap (λ (k : ℕ). (f4 ++ a .t3) ++ drop (12 + k) d) iv-sized
 
 pub put-metadata-spec : {M : Type 1} → statement M
 put-metadata-spec =
     tie.close
     (tie.spec
-    put-u16-requires
-    put-u16-requires-2
-    put-u32-requires
-    put-u32-requires-2
+    put-le-at-requires
+    put-le-at-requires-2
+    put-le-at-requires-3
+    put-le-at-requires-4
     slice-aggregate-paste
     paste-requires
     same-length

@@ -44,10 +44,17 @@ same-length c = search needs
 
 returns : tie.Need-returns
 returns c =
-    let start = c .before .before .before .before .before .before .before .before .before .before .before .before .before .before .before .before .before .before .before in
-    let a = start .args in
-    sealed-steps (a .device-key) (a .name .now) (a .flags) (a .iv) (a .value .now) (good-length (eInt w8) 8 (a .iv) _ (start .good .1 .1 .1 .0))
-    (a .record-buf .now) _ _ _ _ _ (c .before .before .before .before .before .before .before .before .before .before .before .before .before .before .before .sealed-iv .ensures) (c .before .before .before .before .before .before .before .before .before .before .before .before .before .put-metadata .ensures) (c .before .before .before .before .before .before .before .before .before .put-crypted .ensures) (c .before .before .before .before .before .sealed-tag .ensures) (c .before .before .paste .ensures)
+    let at-paste = c .before .before in
+    let at-tag = at-paste .before .before .before in
+    let at-data = at-tag .before .before .before .before in
+    let at-metadata = at-data .before .before .before .before in
+    let at-iv = at-metadata .before .before in
+    let start = at-iv .before .before .before .before in
+    let args = start .args in
+    let iv-sized = good-length (eInt w8) 8 (args .iv) _ (start .good .1 .1 .1 .0) in
+    sealed-steps (args .device-key) (args .name .now) (args .flags) (args .iv) (args .value .now) iv-sized (args .record-buf .now) _ _ _ _ _
+    (at-iv .sealed-iv .ensures) (at-metadata .put-metadata .ensures) (at-data .put-crypted .ensures) (at-tag .sealed-tag .ensures)
+    (at-paste .paste .ensures)
 
 pub seal-into-spec : {M : Type 1} → statement M
 seal-into-spec =

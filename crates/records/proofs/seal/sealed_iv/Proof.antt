@@ -9,11 +9,15 @@ require-confidentiality-requires c κs = search needs
 
 returns : tie.Need-returns
 unfolding sealedIv
-returns c = rw (← (c .before .require-confidentiality .ensures), c .if1 .taken)
+returns c =
+    let require-confidentiality = c .before .require-confidentiality in
+    rw (← (require-confidentiality .ensures), c .if1 .taken)
 
 returns-2 : tie.Need-returns-2
 unfolding sealedIv
-returns-2 c = rw (← (c .before .require-confidentiality .ensures), c .if1 .left)
+returns-2 c =
+    let require-confidentiality = c .before .require-confidentiality in
+    rw (← (require-confidentiality .ensures), c .if1 .left)
 
 pub sealed-iv-spec : {M : Type 1} → statement M
 sealed-iv-spec = tie.close (tie.spec require-confidentiality-requires returns returns-2)

@@ -12,11 +12,16 @@ record-cmac-requires c κs = search needs
 
 returns : tie.Need-returns
 unfolding tagOver
-returns c = rw (← (c .before .before .require-integrity .ensures), c .before .if1 .taken) (c .record-cmac .ensures)
+returns c =
+    let if1 = c .before .if1 in
+    let require-integrity = c .before .before .require-integrity in
+    rw (← (require-integrity .ensures), if1 .taken) (c .record-cmac .ensures)
 
 returns-2 : tie.Need-returns-2
 unfolding tagOver
-returns-2 c = rw (← (c .before .require-integrity .ensures), c .if1 .left)
+returns-2 c =
+    let require-integrity = c .before .require-integrity in
+    rw (← (require-integrity .ensures), c .if1 .left)
 
 pub sealed-tag-spec : {M : Type 1} → statement M
 sealed-tag-spec =

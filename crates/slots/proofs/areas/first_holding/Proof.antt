@@ -1,14 +1,12 @@
 -- `slots::areas::first_holding`. The invariant: what is found from i on is what is found from the start on.
-use mathlib.Core.Path.{_≡_, refl, sym, ap, _∙_}
-use mathlib.Core.List.{[]}
+use mathlib.Core.Path.{_≡_, refl, sym, _∙_}
 use Prim.Native.Nat.{_+_, _-_}
 use borrow.Author.Needs.{needs}
 use lib.ListN.{drop}
 use Rattle.spec.specs.Slots.{firstIndex}
 use Rattle.spec.specs.Area.{slots, holds}
 use Rattle.slots.specs.Kind.{formatOf}
-use Rattle.slots.proofs.Turns.{first-here, first-later, first-past}
-use Rattle.slots.proofs.AreaLaws.{slot-sized, slot-well, in-slots, past-slots}
+use Rattle.slots.proofs.AreaLaws.{slot-fit, search-here, search-later, search-past}
 use Rattle.slots.proofs.areas.first_holding.Statement.{statement}
 use Rattle.slots.proofs.areas.first_holding.Tie as tie
 
@@ -37,29 +35,22 @@ slot-holds-requires c κs =
     let start = c .before .before .before .before .before .before in
     let args = start .args in
     let pre = start .pre in
-    let slot-count = c .before .before .before .slot-count in
-    let loop = c .before .before .loop in
-    let loop-test = c .before .loop-test in
+    let i = c .before .before .loop .i in
+    let h = rw (c .before .before .before .slot-count .ensures) at (c .before .loop-test .taken) in
     let F = formatOf (args .kind) in
-    let l = args .area .now in (
-      slot-sized F l (pre .0) (loop .i) (rw (slot-count .ensures) at (loop-test .taken)) (c .slot-at .result .now) (c .slot-at .ensures),
-      slot-well F l
-          (pre .0) (loop .i) (rw (slot-count .ensures) at (loop-test .taken)) (c .slot-at .result .now) (c .slot-at .ensures) (pre .1),
-    )
+    let l = args .area .now in
+    slot-fit F l (pre .0) i h (c .slot-at .result .now) (c .slot-at .ensures) (pre .1)
 
 returns : tie.Need-returns Inv-loop μ-loop
 returns c =
     let args = c .before .before .before .before .before .before .before .before .args in
-    let slot-count = c .before .before .before .before .before .slot-count in
+    let count = c .before .before .before .before .before .slot-count in
     let loop = c .before .before .before .before .loop in
-    let loop-test = c .before .before .before .loop-test in
+    let taken = c .before .before .before .loop-test .taken in
     let slot-at = c .before .before .slot-at in
     let F = formatOf (args .kind) in
-    let l = args .area .now in
-    let n = args .name .now in
-    let t = holds F n in
-    first-here [] t (slots F l) (loop .i) (in-slots F l (slot-count .result) (loop .i) (slot-count .ensures) (loop-test .taken)) _ (loop .inv)
-    (ap t (sym (slot-at .ensures)) ∙ sym (c .before .slot-holds .ensures) ∙ c .if1 .taken)
+    search-here F (args .area .now) (count .result) (loop .i) (count .ensures) (holds F (args .name .now)) _ (loop .inv) taken (slot-at .result .now)
+    (slot-at .ensures) (sym (c .before .slot-holds .ensures) ∙ c .if1 .taken)
 
 add-i : tie.Need-add-i Inv-loop μ-loop
 add-i c = search needs
@@ -70,26 +61,21 @@ loop-less c = search needs
 loop-again : tie.Need-loop-again Inv-loop μ-loop
 loop-again c =
     let args = c .before .before .before .before .before .before .before .before .args in
-    let slot-count = c .before .before .before .before .before .slot-count in
+    let count = c .before .before .before .before .before .slot-count in
     let loop = c .before .before .before .before .loop in
-    let loop-test = c .before .before .before .loop-test in
+    let taken = c .before .before .before .loop-test .taken in
     let slot-at = c .before .before .slot-at in
     let F = formatOf (args .kind) in
-    let l = args .area .now in
-    let n = args .name .now in
-    let t = holds F n in
-    first-later [] t (slots F l) (loop .i) (in-slots F l (slot-count .result) (loop .i) (slot-count .ensures) (loop-test .taken)) _ (loop .inv)
-    (ap t (sym (slot-at .ensures)) ∙ sym (c .before .slot-holds .ensures) ∙ c .if1 .left)
+    search-later F (args .area .now) (count .result) (loop .i) (count .ensures) (holds F (args .name .now)) _ (loop .inv) taken (slot-at .result .now)
+    (slot-at .ensures) (sym (c .before .slot-holds .ensures) ∙ c .if1 .left)
 
 returns-2 : tie.Need-returns-2 Inv-loop μ-loop
 returns-2 c =
     let args = c .before .before .before .before .before .args in
-    let slot-count = c .before .before .slot-count in
+    let count = c .before .before .slot-count in
     let loop = c .before .loop in
     let F = formatOf (args .kind) in
-    let l = args .area .now in
-    first-past (holds F (args .name .now)) (slots F l) (loop .i) _ (loop .inv)
-    (past-slots F l (slot-count .result) (loop .i) (slot-count .ensures) (c .loop-test .left))
+    search-past F (args .area .now) (count .result) (loop .i) (count .ensures) (holds F (args .name .now)) _ (loop .inv) (c .loop-test .left)
 
 pub first-holding-spec : {M : Type 1} → statement M
 first-holding-spec =

@@ -1,8 +1,8 @@
 -- `slots::areas::has_space`: a search finds a free slot before the end.
 use mathlib.Core.Path.{sym}
 use borrow.Author.Needs.{needs}
+use Rattle.spec.proofs.Area.{intact-valid}
 use Rattle.slots.specs.Kind.{formatOf}
-use Rattle.slots.proofs.AreaLaws.{intact-valid}
 use Rattle.slots.proofs.Lookup.{space-first}
 use Rattle.slots.proofs.areas.has_space.Statement.{statement}
 use Rattle.slots.proofs.areas.has_space.Tie as tie

@@ -1,11 +1,9 @@
--- `slots::areas::name_at`: a slot that is not free has a name.
+-- `slots::areas::name_at`: the name that the slot has.
 use mathlib.Core.Path.{ap, _∙_}
-use mathlib.Core.List.{[]}
 use borrow.Author.Needs.{needs}
-use lib.ListN.{getD}
-use Rattle.spec.specs.Area.{kvFormat, slotFree, slotName, slots}
-use Rattle.slots.proofs.SlotLaws.{taken-is-used, taken-holder}
-use Rattle.slots.proofs.AreaLaws.{slot-sized, slot-well, intact-valid}
+use Rattle.spec.specs.Area.{slotUsed, slotName}
+use Rattle.slots.specs.Kind.{formatOf}
+use Rattle.slots.proofs.AreaLaws.{slot-sized}
 use Rattle.slots.proofs.areas.name_at.Statement.{statement}
 use Rattle.slots.proofs.areas.name_at.Tie as tie
 
@@ -17,23 +15,15 @@ slot-name-requires c κs =
     let start = c .before .before in
     let args = start .args in
     let pre = start .pre in
-    let l = args .kv .now in
+    let F = formatOf (args .kind) in
     let x = c .slot-at .result .now in
     let e = c .slot-at .ensures in
-    let s = pre .0 .0 in
-    let h = pre .1 .0 in (
-      slot-sized kvFormat l s (args .i) h x e,
-      taken-is-used kvFormat x (slot-well kvFormat l s (args .i) h x e (intact-valid kvFormat l (pre .0 .1)))
-          (ap slotFree e ∙ pre .1 .1),
-    )
+    (slot-sized F (args .area .now) (pre .0) (args .i) (pre .1) x e, ap (slotUsed F) e ∙ pre .2)
 
 returns : tie.Need-returns
 returns c =
-    let start = c .before .before .before in
-    let args = start .args in
-    let pre = start .pre in
-    c .slot-name .ensures ∙ ap (slotName kvFormat) (c .before .slot-at .ensures)
-    ∙ rw (taken-holder kvFormat (getD (slots kvFormat (args .kv .now)) (args .i) []) (pre .1 .1))
+    let args = c .before .before .before .args in
+    c .slot-name .ensures ∙ ap (slotName (formatOf (args .kind))) (c .before .slot-at .ensures)
 
 pub name-at-spec : {M : Type 1} → statement M
 name-at-spec = tie.close (tie.spec slot-at-requires slot-name-requires returns)

@@ -1,17 +1,18 @@
 -- `slots::areas::names_distinct`. The invariant: the names of what is left are distinct just where all are.
 use mathlib.Core.Path.{_≡_, refl, sym, ap, _∙_}
+use mathlib.Core.Bool.{true}
 use mathlib.Core.List.{[]}
 use mathlib.Core.Option.{some}
-use Prim.Native.Nat.{_-_}
+use Prim.Native.Nat.{_-_, _<_}
 use native.Mathlib.Omega.{arith}
 use borrow.Author.Needs.{needs}
-use lib.ListN.{drop, drop-of-length-le}
+use lib.ListN.{length, getD, drop, drop-of-length-le}
 use Rattle.spec.specs.Slots.{namesBy, distinct}
-use Rattle.spec.specs.Area.{slotHolder, slots, names}
+use Rattle.spec.specs.Area.{slotValid, slotHolder, slots, names}
 use Rattle.slots.specs.Kind.{formatOf}
 use Rattle.slots.proofs.KindLaws.{numbers}
 use Rattle.slots.proofs.SlotLaws.{blank-holder, state-holder, state-is-used}
-use Rattle.slots.proofs.AreaLaws.{slot-sized, slot-well, in-slots, past-slots}
+use Rattle.slots.proofs.AreaLaws.{slot-fit, in-slots, past-slots}
 use Rattle.slots.proofs.Lookup.{distinct-free, distinct-twice, distinct-once}
 use Rattle.slots.proofs.areas.names_distinct.Statement.{statement}
 use Rattle.slots.proofs.areas.names_distinct.Tie as tie
@@ -35,20 +36,37 @@ slot-at-requires c κs =
     let slot-count = c .before .before .slot-count in
     (pre .0, rw (slot-count .ensures) at (c .loop-test .taken))
 
-shared-slice-read-if1 : tie.Need-shared-slice-read-if1 Inv-loop μ-loop
-shared-slice-read-if1 c =
-    let start = c .before .before .before .before .before .before in
+-- the slot in hand: as wide as a slot, and well shaped
+in-hand : (c : tie.After-slot-at Inv-loop μ-loop) → let F = formatOf (c .before .before .before .before .before .args .kind) in
+    let x = c .slot-at .result .now in
+    (length x ≡ F .slotSize) × (slotValid F x ≡ true)
+in-hand c =
+    let start = c .before .before .before .before .before in
     let args = start .args in
     let pre = start .pre in
-    let slot-count = c .before .before .before .before .slot-count in
-    let loop = c .before .before .before .loop in
-    let loop-test = c .before .before .loop-test in
-    let slot-at = c .before .slot-at in
-    let k = numbers (args .kind) in omega (
-      arith,
-      slot-sized (formatOf (args .kind)) (args .area .now) (pre .0) (loop .i) (rw (slot-count .ensures) at (loop-test .taken))
-          (slot-at .result .now) (slot-at .ensures),
-    )
+    let i = c .before .before .loop .i in
+    let h = rw (c .before .before .before .slot-count .ensures) at (c .before .loop-test .taken) in
+    slot-fit (formatOf (args .kind)) (args .area .now) (pre .0) i h (c .slot-at .result .now) (c .slot-at .ensures) (pre .1)
+
+-- its index is one of the list of slots
+listed : (c : tie.In-loop Inv-loop μ-loop) → let args = c .before .before .before .before .args in
+    c .before .loop .i < length (slots (formatOf (args .kind)) (args .area .now))
+listed c =
+    let args = c .before .before .before .before .args in
+    let count = c .before .before .slot-count in
+    in-slots (formatOf (args .kind)) (args .area .now) (count .result) (c .before .loop .i) (count .ensures) (c .loop-test .taken)
+
+-- the name in hand is its
+named : (c : tie.After-slot-name Inv-loop μ-loop) → let args = c .before .before .before .before .before .before .before .before .args in
+    let F = formatOf (args .kind) in
+    slotHolder F (getD (slots F (args .area .now)) (c .before .before .before .before .before .loop .i) []) ≡ some (c .slot-name .result .now)
+named c =
+    let F = formatOf (c .before .before .before .before .before .before .before .before .args .kind) in
+    let slot-at = c .before .before .before .slot-at in
+    ap (slotHolder F) (sym (slot-at .ensures)) ∙ state-holder F (slot-at .result .now) (c .before .if1 .left) ∙ ap some (sym (c .slot-name .ensures))
+
+shared-slice-read-if1 : tie.Need-shared-slice-read-if1 Inv-loop μ-loop
+shared-slice-read-if1 c = let k = numbers (c .before .before .before .before .before .before .args .kind) in omega (arith, in-hand (c .before) .0)
 
 add-i : tie.Need-add-i Inv-loop μ-loop
 add-i c = search needs
@@ -58,37 +76,19 @@ loop-less c = search needs
 
 loop-again : tie.Need-loop-again Inv-loop μ-loop
 loop-again c =
-    let start = c .before .before .before .before .before .before .before in
-    let args = start .args in
-    let pre = start .pre in
-    let slot-count = c .before .before .before .before .before .slot-count in
+    let args = c .before .before .before .before .before .before .before .args in
     let loop = c .before .before .before .before .loop in
-    let loop-test = c .before .before .before .loop-test in
     let slot-at = c .before .before .slot-at in
     let F = formatOf (args .kind) in
-    let l = args .area .now in
     let h = slotHolder F in
-    distinct-free [] h (slots F l) (loop .i) (in-slots F l (slot-count .result) (loop .i) (slot-count .ensures) (loop-test .taken))
-    (ap h (sym (slot-at .ensures)) ∙ blank-holder F (slot-at .result .now)
-    (slot-well F l (pre .0) (loop .i) (rw (slot-count .ensures) at (loop-test .taken)) (slot-at .result .now) (slot-at .ensures) (pre .1))
-    (c .if1 .taken)) ∙ loop .inv
+    let free = blank-holder F (slot-at .result .now) (in-hand (c .before .before) .1) (c .if1 .taken) in
+    distinct-free [] h (slots F (args .area .now)) (loop .i) (listed (c .before .before .before)) (ap h (sym (slot-at .ensures)) ∙ free) ∙ loop .inv
 
 slot-name-requires : tie.Need-slot-name-requires Inv-loop μ-loop
 slot-name-requires c κs =
-    let start = c .before .before .before .before .before .before .before in
-    let args = start .args in
-    let pre = start .pre in
-    let slot-count = c .before .before .before .before .before .slot-count in
-    let loop = c .before .before .before .before .loop in
-    let loop-test = c .before .before .before .loop-test in
-    let slot-at = c .before .before .slot-at in
-    let F = formatOf (args .kind) in
-    let l = args .area .now in (
-      slot-sized F l (pre .0) (loop .i) (rw (slot-count .ensures) at (loop-test .taken)) (slot-at .result .now) (slot-at .ensures),
-      state-is-used F
-          (slot-at .result .now) (slot-well F l (pre .0) (loop .i) (rw (slot-count .ensures) at (loop-test .taken)) (slot-at .result .now)
-          (slot-at .ensures) (pre .1)) (c .if1 .left),
-    )
+    let F = formatOf (c .before .before .before .before .before .before .before .args .kind) in
+    let fit = in-hand (c .before .before) in
+    (fit .0, state-is-used F (c .before .before .slot-at .result .now) (fit .1) (c .if1 .left))
 
 add-first-holding : tie.Need-add-first-holding Inv-loop μ-loop
 add-first-holding c = search needs
@@ -99,20 +99,15 @@ first-holding-requires c κs = c .before .before .before .before .before .before
 returns : tie.Need-returns Inv-loop μ-loop
 returns c =
     let args = c .before .before .before .before .before .before .before .before .before .before .args in
-    let slot-count = c .before .before .before .before .before .before .before .before .slot-count in
+    let count = c .before .before .before .before .before .before .before .before .slot-count in
     let loop = c .before .before .before .before .before .before .before .loop in
-    let loop-test = c .before .before .before .before .before .before .loop-test in
-    let slot-at = c .before .before .before .before .before .slot-at in
-    let if1 = c .before .before .before .if1 in
-    let slot-name = c .before .before .slot-name in
-    let first-holding = c .before .first-holding in
+    let name = c .before .before .slot-name .result .now in
+    let next = c .before .first-holding in
     let F = formatOf (args .kind) in
     let l = args .area .now in
-    let h = slotHolder F in
-    sym (sym (loop .inv) ∙ distinct-twice [] h (slots F l) (loop .i)
-    (in-slots F l (slot-count .result) (loop .i) (slot-count .ensures) (loop-test .taken)) (slot-name .result .now) (first-holding .result)
-    (ap h (sym (slot-at .ensures)) ∙ state-holder F (slot-at .result .now) (if1 .left) ∙ ap some (sym (slot-name .ensures))) (first-holding .ensures)
-    (in-slots F l (slot-count .result) (first-holding .result) (slot-count .ensures) (c .if2 .taken)))
+    let there = listed (c .before .before .before .before .before .before) in
+    sym (sym (loop .inv) ∙ distinct-twice [] (slotHolder F) (slots F l) (loop .i) there name (next .result) (named (c .before .before)) (next .ensures)
+    (in-slots F l (count .result) (next .result) (count .ensures) (c .if2 .taken)))
 
 add-i-2 : tie.Need-add-i-2 Inv-loop μ-loop
 add-i-2 c = search needs
@@ -123,20 +118,15 @@ loop-less-2 c = search needs
 loop-again-2 : tie.Need-loop-again-2 Inv-loop μ-loop
 loop-again-2 c =
     let args = c .before .before .before .before .before .before .before .before .before .before .args in
-    let slot-count = c .before .before .before .before .before .before .before .before .slot-count in
+    let count = c .before .before .before .before .before .before .before .before .slot-count in
     let loop = c .before .before .before .before .before .before .before .loop in
-    let loop-test = c .before .before .before .before .before .before .loop-test in
-    let slot-at = c .before .before .before .before .before .slot-at in
-    let if1 = c .before .before .before .if1 in
-    let slot-name = c .before .before .slot-name in
-    let first-holding = c .before .first-holding in
+    let name = c .before .before .slot-name .result .now in
+    let next = c .before .first-holding in
     let F = formatOf (args .kind) in
     let l = args .area .now in
-    let h = slotHolder F in
-    distinct-once [] h (slots F l) (loop .i) (in-slots F l (slot-count .result) (loop .i) (slot-count .ensures) (loop-test .taken))
-    (slot-name .result .now) (first-holding .result)
-    (ap h (sym (slot-at .ensures)) ∙ state-holder F (slot-at .result .now) (if1 .left) ∙ ap some (sym (slot-name .ensures))) (first-holding .ensures)
-    (past-slots F l (slot-count .result) (first-holding .result) (slot-count .ensures) (c .if2 .left)) ∙ loop .inv
+    let there = listed (c .before .before .before .before .before .before) in
+    distinct-once [] (slotHolder F) (slots F l) (loop .i) there name (next .result) (named (c .before .before)) (next .ensures)
+    (past-slots F l (count .result) (next .result) (count .ensures) (c .if2 .left)) ∙ loop .inv
 
 returns-2 : tie.Need-returns-2 Inv-loop μ-loop
 returns-2 c =

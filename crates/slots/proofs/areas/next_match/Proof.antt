@@ -1,14 +1,13 @@
 -- `slots::areas::next_match`. The invariant: what is found from i on is what is found from the start on.
-use mathlib.Core.Path.{_≡_, refl, sym, ap, _∙_}
-use mathlib.Core.List.{[]}
+use mathlib.Core.Path.{_≡_, refl, sym, _∙_}
 use Prim.Native.Nat.{_+_, _-_}
 use borrow.Author.Needs.{needs}
 use lib.ListN.{drop}
 use Rattle.spec.specs.Slots.{firstIndex}
 use Rattle.spec.specs.Area.{slots, kvFormat}
 use Rattle.spec.specs.Calls.{slotHasPrefix, nextMatch}
-use Rattle.slots.proofs.Turns.{first-here, first-later, first-past}
-use Rattle.slots.proofs.AreaLaws.{intact-valid, slot-sized, slot-well, in-slots, past-slots}
+use Rattle.spec.proofs.Area.{intact-valid}
+use Rattle.slots.proofs.AreaLaws.{slot-fit, search-here, search-later, search-past}
 use Rattle.slots.proofs.areas.next_match.Statement.{statement}
 use Rattle.slots.proofs.areas.next_match.Tie as tie
 
@@ -37,28 +36,22 @@ slot-has-prefix-requires c κs =
     let start = c .before .before .before .before .before .before in
     let args = start .args in
     let pre = start .pre in
-    let slot-count = c .before .before .before .slot-count in
-    let loop = c .before .before .loop in
-    let loop-test = c .before .loop-test in
-    let l = args .kv .now in (
-      slot-sized kvFormat l (pre .0) (loop .i) (rw (slot-count .ensures) at (loop-test .taken)) (c .slot-at .result .now)
-          (c .slot-at .ensures),
-      slot-well kvFormat l (pre .0) (loop .i) (rw (slot-count .ensures) at (loop-test .taken)) (c .slot-at .result .now)
-          (c .slot-at .ensures) (intact-valid kvFormat l (pre .1)),
-    )
+    let i = c .before .before .loop .i in
+    let h = rw (c .before .before .before .slot-count .ensures) at (c .before .loop-test .taken) in
+    let l = args .kv .now in
+    slot-fit kvFormat l (pre .0) i h (c .slot-at .result .now) (c .slot-at .ensures) (intact-valid kvFormat l (pre .1))
 
 returns : tie.Need-returns Inv-loop μ-loop
 unfolding nextMatch
 returns c =
     let args = c .before .before .before .before .before .before .before .before .args in
-    let slot-count = c .before .before .before .before .before .slot-count in
+    let count = c .before .before .before .before .before .slot-count in
     let loop = c .before .before .before .before .loop in
-    let loop-test = c .before .before .before .loop-test in
+    let taken = c .before .before .before .loop-test .taken in
     let slot-at = c .before .before .slot-at in
-    let l = args .kv .now in
     let t = slotHasPrefix (args .prefix .now) in
-    first-here [] t (slots kvFormat l) (loop .i) (in-slots kvFormat l (slot-count .result) (loop .i) (slot-count .ensures) (loop-test .taken)) _
-    (loop .inv) (ap t (sym (slot-at .ensures)) ∙ sym (c .before .slot-has-prefix .ensures) ∙ c .if1 .taken)
+    search-here kvFormat (args .kv .now) (count .result) (loop .i) (count .ensures) t _ (loop .inv) taken (slot-at .result .now)
+    (slot-at .ensures) (sym (c .before .slot-has-prefix .ensures) ∙ c .if1 .taken)
 
 add-i : tie.Need-add-i Inv-loop μ-loop
 add-i c = search needs
@@ -69,24 +62,21 @@ loop-less c = search needs
 loop-again : tie.Need-loop-again Inv-loop μ-loop
 loop-again c =
     let args = c .before .before .before .before .before .before .before .before .args in
-    let slot-count = c .before .before .before .before .before .slot-count in
+    let count = c .before .before .before .before .before .slot-count in
     let loop = c .before .before .before .before .loop in
-    let loop-test = c .before .before .before .loop-test in
+    let taken = c .before .before .before .loop-test .taken in
     let slot-at = c .before .before .slot-at in
-    let l = args .kv .now in
     let t = slotHasPrefix (args .prefix .now) in
-    first-later [] t (slots kvFormat l) (loop .i) (in-slots kvFormat l (slot-count .result) (loop .i) (slot-count .ensures) (loop-test .taken)) _
-    (loop .inv) (ap t (sym (slot-at .ensures)) ∙ sym (c .before .slot-has-prefix .ensures) ∙ c .if1 .left)
+    search-later kvFormat (args .kv .now) (count .result) (loop .i) (count .ensures) t _ (loop .inv) taken (slot-at .result .now)
+    (slot-at .ensures) (sym (c .before .slot-has-prefix .ensures) ∙ c .if1 .left)
 
 returns-2 : tie.Need-returns-2 Inv-loop μ-loop
 unfolding nextMatch
 returns-2 c =
     let args = c .before .before .before .before .before .args in
-    let slot-count = c .before .before .slot-count in
+    let count = c .before .before .slot-count in
     let loop = c .before .loop in
-    let l = args .kv .now in
-    first-past (slotHasPrefix (args .prefix .now)) (slots kvFormat l) (loop .i) _ (loop .inv)
-    (past-slots kvFormat l (slot-count .result) (loop .i) (slot-count .ensures) (c .loop-test .left))
+    search-past kvFormat (args .kv .now) (count .result) (loop .i) (count .ensures) (slotHasPrefix (args .prefix .now)) _ (loop .inv) (c .loop-test .left)
 
 pub next-match-spec : {M : Type 1} → statement M
 next-match-spec =

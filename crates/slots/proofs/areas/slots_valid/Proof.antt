@@ -1,12 +1,12 @@
 -- `slots::areas::slots_valid`. The invariant: what is left is valid just where the whole is.
 use mathlib.Core.Path.{_≡_, refl, sym, ap, _∙_}
-use mathlib.Core.Bool.{true, false}
+use mathlib.Core.Bool.{_&&_}
 use mathlib.Core.List.{[]}
-use Prim.Native.Nat.{_-_}
+use Prim.Native.Nat.{_+_, _-_}
 use borrow.Author.Tests.{not-true, not-false}
 use borrow.Author.Needs.{needs}
-use lib.ListN.{getD, drop}
-use Rattle.spec.specs.Bytes.{every}
+use lib.ListN.{drop}
+use Rattle.buffers.specs.Bytes.{every}
 use Rattle.spec.specs.Area.{slotValid, slots}
 use Rattle.slots.specs.Kind.{formatOf}
 use Rattle.slots.proofs.Turns.{every-turn, every-past}
@@ -44,21 +44,25 @@ slot-valid-requires c κs =
     slot-sized (formatOf (args .kind)) (args .area .now) pre (loop .i) (rw (slot-count .ensures) at (c .before .loop-test .taken))
     (c .slot-at .result .now) (c .slot-at .ensures)
 
-returns : tie.Need-returns Inv-loop μ-loop
-returns c =
-    let args = c .before .before .before .before .before .before .before .args in
-    let slot-count = c .before .before .before .before .before .slot-count in
-    let loop = c .before .before .before .before .loop in
-    let loop-test = c .before .before .before .loop-test in
-    let slot-at = c .before .before .slot-at in
-    let slot-valid = c .before .slot-valid in
+-- what the slot in hand decides of those that are left
+turn : (c : tie.After-slot-valid Inv-loop μ-loop) → let args = c .before .before .before .before .before .before .args in
+    let t = slotValid (formatOf (args .kind)) in
+    let ss = slots (formatOf (args .kind)) (args .area .now) in
+    let i = c .before .before .before .loop .i in
+    every t (drop i ss) ≡ (c .slot-valid .result && every t (drop (i + 1) ss))
+turn c =
+    let args = c .before .before .before .before .before .before .args in
+    let count = c .before .before .before .before .slot-count in
+    let i = c .before .before .before .loop .i in
     let F = formatOf (args .kind) in
     let l = args .area .now in
-    let ss = slots F l in
-    let t = slotValid F in
-    let b : t (getD ss (loop .i) []) ≡ false = ap t (sym (slot-at .ensures)) ∙ sym (slot-valid .ensures)
-    ∙ not-true (slot-valid .result) (c .if1 .taken) in
-    sym (sym (loop .inv) ∙ every-turn [] t ss (loop .i) (in-slots F l (slot-count .result) (loop .i) (slot-count .ensures) (loop-test .taken)) ∙ rw b)
+    every-turn [] (slotValid F) (slots F l) i (in-slots F l (count .result) i (count .ensures) (c .before .before .loop-test .taken))
+    ∙ rw (ap (slotValid F) (sym (c .before .slot-at .ensures)) ∙ sym (c .slot-valid .ensures))
+
+returns : tie.Need-returns Inv-loop μ-loop
+returns c =
+    let inv = c .before .before .before .before .loop .inv in
+    sym (sym inv ∙ turn (c .before) ∙ rw (not-true (c .before .slot-valid .result) (c .if1 .taken)))
 
 add-i : tie.Need-add-i Inv-loop μ-loop
 add-i c = search needs
@@ -68,19 +72,8 @@ loop-less c = search needs
 
 loop-again : tie.Need-loop-again Inv-loop μ-loop
 loop-again c =
-    let args = c .before .before .before .before .before .before .before .args in
-    let slot-count = c .before .before .before .before .before .slot-count in
-    let loop = c .before .before .before .before .loop in
-    let loop-test = c .before .before .before .loop-test in
-    let slot-at = c .before .before .slot-at in
-    let slot-valid = c .before .slot-valid in
-    let F = formatOf (args .kind) in
-    let l = args .area .now in
-    let ss = slots F l in
-    let t = slotValid F in
-    let b : t (getD ss (loop .i) []) ≡ true = ap t (sym (slot-at .ensures)) ∙ sym (slot-valid .ensures)
-    ∙ not-false (slot-valid .result) (c .if1 .left) in
-    sym (every-turn [] t ss (loop .i) (in-slots F l (slot-count .result) (loop .i) (slot-count .ensures) (loop-test .taken)) ∙ rw b) ∙ loop .inv
+    let inv = c .before .before .before .before .loop .inv in
+    sym (turn (c .before) ∙ rw (not-false (c .before .slot-valid .result) (c .if1 .left))) ∙ inv
 
 returns-2 : tie.Need-returns-2 Inv-loop μ-loop
 returns-2 c =

@@ -1,13 +1,13 @@
 -- `slots::names::valid_name_bytes`. The invariant: what is left is valid just where the whole is.
 use mathlib.Core.Path.{_≡_, refl, sym, _∙_}
-use mathlib.Core.Bool.{true, false}
+use mathlib.Core.Bool.{_&&_}
 use mathlib.Core.List.{[]}
-use Prim.Native.Nat.{_-_, _≤_}
+use Prim.Native.Nat.{_+_, _-_, _≤_}
 use native.Mathlib.Omega.{arith}
 use borrow.Author.Tests.{not-true, not-false}
 use borrow.Author.Needs.{needs}
-use lib.ListN.{length, getD, drop, drop-of-length-le}
-use Rattle.spec.specs.Bytes.{every}
+use lib.ListN.{length, drop, drop-of-length-le}
+use Rattle.buffers.specs.Bytes.{every}
 use Rattle.spec.specs.Name.{validNameByte}
 use Rattle.slots.proofs.Turns.{every-turn}
 use Rattle.slots.proofs.names.valid_name_bytes.Statement.{statement}
@@ -28,16 +28,18 @@ shared-slice-read-valid-name-byte c = search needs
 valid-name-byte-requires : tie.Need-valid-name-byte-requires Inv-loop μ-loop
 valid-name-byte-requires c κs = search needs
 
+-- what the byte in hand decides of those that are left
+turn : (c : tie.After-valid-name-byte Inv-loop μ-loop) → let s = c .before .before .before .before .before .args .s .now in
+    let i = c .before .before .before .loop .i in
+    every validNameByte (drop i s) ≡ (c .valid-name-byte .result && every validNameByte (drop (i + 1) s))
+turn c =
+    let s = c .before .before .before .before .before .args .s .now in
+    every-turn 0 validNameByte s (c .before .before .before .loop .i) (c .before .before .loop-test .taken) ∙ rw (sym (c .valid-name-byte .ensures))
+
 returns : tie.Need-returns Inv-loop μ-loop
 returns c =
-    let args = c .before .before .before .before .before .before .args in
-    let loop = c .before .before .before .before .loop in
-    let loop-test = c .before .before .before .loop-test in
-    let valid-name-byte = c .before .valid-name-byte in
-    let s = args .s .now in
-    let i = loop .i in
-    let b : validNameByte (getD s i 0) ≡ false = sym (valid-name-byte .ensures) ∙ not-true (valid-name-byte .result) (c .if1 .taken) in
-    sym (sym (loop .inv .1) ∙ every-turn 0 validNameByte s i (loop-test .taken) ∙ rw b)
+    let inv = c .before .before .before .before .loop .inv in
+    sym (sym (inv .1) ∙ turn (c .before) ∙ rw (not-true (c .before .valid-name-byte .result) (c .if1 .taken)))
 
 add-i : tie.Need-add-i Inv-loop μ-loop
 add-i c = search needs
@@ -47,14 +49,8 @@ loop-less c = search needs
 
 loop-again : tie.Need-loop-again Inv-loop μ-loop
 loop-again c =
-    let args = c .before .before .before .before .before .before .args in
-    let loop = c .before .before .before .before .loop in
-    let loop-test = c .before .before .before .loop-test in
-    let valid-name-byte = c .before .valid-name-byte in
-    let s = args .s .now in
-    let i = loop .i in
-    let b : validNameByte (getD s i 0) ≡ true = sym (valid-name-byte .ensures) ∙ not-false (valid-name-byte .result) (c .if1 .left) in
-    (omega arith, sym (every-turn 0 validNameByte s i (loop-test .taken) ∙ rw b) ∙ loop .inv .1)
+    let inv = c .before .before .before .before .loop .inv in
+    (omega arith, sym (turn (c .before) ∙ rw (not-false (c .before .valid-name-byte .result) (c .if1 .left))) ∙ inv .1)
 
 returns-2 : tie.Need-returns-2 Inv-loop μ-loop
 returns-2 c =

@@ -4,8 +4,8 @@ use Prim.Native.Nat.{ℕ, _-_}
 use native.Mathlib.Omega.{arith}
 use borrow.Author.Needs.{needs}
 use lib.ListN.{length, take, length-take}
-use Rattle.spec.specs.Bytes.{bytesEq}
-use Rattle.slots.proofs.Turns.{lengths-differ}
+use Rattle.buffers.specs.Bytes.{bytesEq}
+use Rattle.buffers.proofs.Bytes.{lengths-differ}
 use Rattle.slots.proofs.slot.has_prefix.Statement.{statement}
 use Rattle.slots.proofs.slot.has_prefix.Tie as tie
 

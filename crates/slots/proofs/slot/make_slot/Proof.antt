@@ -3,8 +3,8 @@ use mathlib.Core.Path.{_≡_, ap, _∙_}
 use native.Mathlib.Omega.{arith}
 use borrow.Author.Needs.{needs}
 use lib.ListN.{length}
-use Rattle.spec.specs.Bytes.{zeros}
-use Rattle.spec.proofs.Bytes.{length-zeros}
+use Rattle.buffers.specs.Bytes.{zeros}
+use Rattle.buffers.proofs.Bytes.{length-zeros}
 use Rattle.slots.specs.Kind.{formatOf}
 use Rattle.slots.proofs.KindLaws.{numbers, kind-laws}
 use Rattle.slots.proofs.SlotBytes.{written-slot}
@@ -14,14 +14,25 @@ use Rattle.slots.proofs.slot.make_slot.Tie as tie
 clear-requires : tie.Need-clear-requires
 clear-requires c κs = search needs
 
+-- the slot keeps its width: cleared, with its header, and with its name
+cleared : (c : tie.After-clear) → length (c .clear .last .0) ≡ formatOf (c .before .before .before .before .before .args .kind) .slotSize
+cleared c =
+    let start = c .before .before .before .before .before in
+    ap length (c .clear .ensures) ∙ length-zeros (length (start .args .slot .now)) ∙ start .pre .0
+
+headed : (c : tie.After-put-header) → let start = c .before .before .before .before .before .before .before .before .before in
+    length (c .put-header .last .1 .0) ≡ formatOf (start .args .kind) .slotSize
+headed c = c .put-header .kept .1 .0 ∙ cleared (c .before .before .before .before)
+
+named : (c : tie.After-paste) → let start = c .before .before .before .before .before .before .before .before .before .before .before .before .before .before in
+    length (c .paste .last .0) ≡ formatOf (start .args .kind) .slotSize
+named c = c .paste .kept .0 ∙ headed (c .before .before .before .before .before)
+
 put-header-requires : tie.Need-put-header-requires
 put-header-requires c κs =
     let start = c .before .before .before .before .before .before .before .before in
-    let args = start .args in
-    let pre = start .pre in
-    let clear = c .before .before .before .clear in
-    let k = numbers (args .kind) in
-    (ap length (clear .ensures) ∙ length-zeros (length (args .slot .now)) ∙ pre .0, pre .1, omega (arith, pre .2))
+    let k = numbers (start .args .kind) in
+    (cleared (c .before .before .before), start .pre .1, omega (arith, start .pre .2))
 
 name-offset-requires : tie.Need-name-offset-requires
 name-offset-requires c κs = search needs
@@ -29,15 +40,8 @@ name-offset-requires c κs = search needs
 paste-requires : tie.Need-paste-requires
 paste-requires c κs =
     let start = c .before .before .before .before .before .before .before .before .before .before .before .before .before in
-    let args = start .args in
-    let pre = start .pre in
-    let clear = c .before .before .before .before .before .before .before .before .clear in
-    let put-header = c .before .before .before .before .put-header in
-    let k = numbers (args .kind) in
-    let z : length (clear .last .0) ≡ formatOf (args .kind) .slotSize = ap length (clear .ensures) ∙ length-zeros (length (args .slot .now))
-    ∙ pre .0 in
-    let h : length (put-header .last .1 .0) ≡ length (clear .last .0) = put-header .kept .1 .0 in
-    omega (arith, c .name-offset .ensures, pre .1)
+    let k = numbers (start .args .kind) in
+    omega (arith, headed (c .before .before .before .before), c .name-offset .ensures, start .pre .1)
 
 payload-offset-requires : tie.Need-payload-offset-requires
 payload-offset-requires c κs = search needs
@@ -46,17 +50,8 @@ paste-requires-2 : tie.Need-paste-requires-2
 paste-requires-2 c κs =
     let start = c .before .before .before .before .before .before .before .before .before .before .before .before .before .before .before .before
     .before .before in
-    let args = start .args in
-    let pre = start .pre in
-    let clear = c .before .before .before .before .before .before .before .before .before .before .before .before .before .clear in
-    let put-header = c .before .before .before .before .before .before .before .before .before .put-header in
-    let paste = c .before .before .before .before .paste in
-    let k = numbers (args .kind) in
-    let z : length (clear .last .0) ≡ formatOf (args .kind) .slotSize = ap length (clear .ensures) ∙ length-zeros (length (args .slot .now))
-    ∙ pre .0 in
-    let h : length (put-header .last .1 .0) ≡ length (clear .last .0) = put-header .kept .1 .0 in
-    let m : length (paste .last .0) ≡ length (put-header .last .1 .0) = paste .kept .0 in
-    omega (arith, c .payload-offset .ensures, pre .2)
+    let k = numbers (start .args .kind) in
+    omega (arith, named (c .before .before .before .before), c .payload-offset .ensures, start .pre .2)
 
 same-length : tie.Need-same-length
 same-length c = search needs

@@ -1,12 +1,13 @@
 -- `slots::slot::slot_name`: a used slot's name is within it.
 use mathlib.Core.Path.{_∙_}
+use Prim.Native.Nat.{_+_, _≤_}
 use native.Mathlib.Omega.{arith}
 use borrow.Author.Needs.{needs}
-use lib.ListN.{getD}
+use lib.ListN.{length, getD}
+use Rattle.spec.proofs.Slot.{used-slot}
 use Rattle.slots.specs.Kind.{formatOf}
 use Rattle.slots.proofs.KindLaws.{numbers}
-use Rattle.slots.proofs.SlotLaws.{used-name}
-use Rattle.slots.proofs.SlotBytes.{part}
+use Rattle.buffers.proofs.Lists.{part}
 use Rattle.slots.proofs.slot.slot_name.Statement.{statement}
 use Rattle.slots.proofs.slot.slot_name.Tie as tie
 
@@ -21,12 +22,16 @@ cast-n c = omega (arith, c .shared-slice-known2 .given 1)
 name-offset-requires : tie.Need-name-offset-requires
 name-offset-requires c κs = search needs
 
-add-end : tie.Need-add-end
-add-end c =
+-- the name ends within the slot
+within : (c : tie.After-name-offset) → let s = c .before .before .before .args .slot .now in c .name-offset .result + getD s 1 0 ≤ length s
+within c =
     let start = c .before .before .before in
-    let args = start .args in
-    let pre = start .pre in
-    let k = numbers (args .kind) in omega (arith, used-name (formatOf (args .kind)) (args .slot .now) (pre .1), c .name-offset .ensures)
+    let k = numbers (start .args .kind) in
+    let short = used-slot (formatOf (start .args .kind)) (start .args .slot .now) (start .pre .1) .name-length in
+    omega (arith, c .name-offset .ensures, start .pre .0)
+
+add-end : tie.Need-add-end
+add-end c = omega (arith, within c)
 
 sub-result : tie.Need-sub-result
 sub-result c = search needs
@@ -35,11 +40,7 @@ part-result-start : tie.Need-part-result-start
 part-result-start c = search needs
 
 part-result-end : tie.Need-part-result-end
-part-result-end c =
-    let start = c .before .before .before in
-    let args = start .args in
-    let pre = start .pre in
-    let k = numbers (args .kind) in omega (arith, used-name (formatOf (args .kind)) (args .slot .now) (pre .1), c .name-offset .ensures, pre .0)
+part-result-end c = within c
 
 returns : tie.Need-returns
 returns c =

@@ -1,11 +1,13 @@
 -- `slots::slot::slot_used`: the tests of a used slot, in the order of the definition.
-use mathlib.Core.Path.{refl, sym, _∙_}
-use Prim.Native.Nat.{_-_}
+use mathlib.Core.Path.{_≡_, refl, sym, _∙_}
+use mathlib.Core.Bool.{_&&_}
+use Prim.Native.Nat.{_+_, _-_, _≤_}
 use native.Mathlib.Omega.{arith}
 use borrow.Author.Tests.{eq-eqb, ne-eqb, le-leb, lt-leb, not-true, not-false}
 use borrow.Author.Needs.{needs}
-use lib.ListN.{length}
-use Rattle.spec.specs.Area.{stateByte, nameLength}
+use lib.ListN.{length, take, drop}
+use Rattle.buffers.specs.Bytes.{allZero}
+use Rattle.spec.specs.Area.{stateByte, nameLength, slotUsed}
 use Rattle.slots.specs.Kind.{formatOf}
 use Rattle.slots.proofs.KindLaws.{numbers}
 use Rattle.slots.proofs.SlotLaws.{used-tests}
@@ -88,8 +90,7 @@ returns-3 c =
     ∙ rw (
       eq-eqb (stateByte s) 1 (if1 .left),
       le-leb (nameLength s) 64 (if2 .left),
-      sym (valid-name .ensures)
-          ∙ not-true (valid-name .result) (c .if3 .taken),
+      sym (valid-name .ensures) ∙ not-true (valid-name .result) (c .if3 .taken),
     ))
 
 payload-offset-requires : tie.Need-payload-offset-requires
@@ -123,132 +124,89 @@ returns-4 c =
     ∙ rw (
       eq-eqb (stateByte s) 1 (if1 .left),
       le-leb (nameLength s) 64 (if2 .left),
-      sym (valid-name .ensures)
-          ∙ not-false (valid-name .result) (if3 .left),
+      sym (valid-name .ensures) ∙ not-false (valid-name .result) (if3 .left),
       lt-leb (payload-len .result) (length s - payload-offset .result) (c .if4 .taken),
     ))
 
-sub-all-zero : tie.Need-sub-all-zero
-sub-all-zero c =
-    let args = c .before .before .before .before .before .before .before .before .before .before .before .before .args in
+-- the name ends before the payload, and the payload within the slot
+in-order : (c : tie.Else4) → let payload-offset = c .before .before .payload-offset .result in
+    let start = c .before .before .before .before .before .before .before .before .before .before .before .before in
+    let s = start .args .slot .now in
+    (c .before .before .before .before .before .before .name-offset .result + nameLength s ≤ payload-offset)
+    × (payload-offset + c .before .payload-len .result ≤ length s)
+in-order c =
+    let start = c .before .before .before .before .before .before .before .before .before .before .before .before in
     let if2 = c .before .before .before .before .before .before .before .if2 in
     let name-offset = c .before .before .before .before .before .before .name-offset in
     let payload-offset = c .before .before .payload-offset in
-    let k = numbers (args .kind) in omega (arith, payload-offset .ensures, name-offset .ensures, if2 .left)
+    let k = numbers (start .args .kind) in
+    (omega (arith, payload-offset .ensures, name-offset .ensures, if2 .left), omega (arith, payload-offset .ensures, c .if4 .left, start .pre))
+
+sub-all-zero : tie.Need-sub-all-zero
+sub-all-zero c = in-order c .0
 
 part-all-zero-start : tie.Need-part-all-zero-start
-part-all-zero-start c =
-    let args = c .before .before .before .before .before .before .before .before .before .before .before .before .args in
-    let if2 = c .before .before .before .before .before .before .before .if2 in
-    let name-offset = c .before .before .before .before .before .before .name-offset in
-    let payload-offset = c .before .before .payload-offset in
-    let k = numbers (args .kind) in omega (arith, payload-offset .ensures, name-offset .ensures, if2 .left)
+part-all-zero-start c = in-order c .0
 
 part-all-zero-end : tie.Need-part-all-zero-end
-part-all-zero-end c =
-    let start = c .before .before .before .before .before .before .before .before .before .before .before .before in
-    let args = start .args in
-    let pre = start .pre in
-    let payload-offset = c .before .before .payload-offset in
-    let k = numbers (args .kind) in omega (arith, payload-offset .ensures, pre)
+part-all-zero-end c = omega (arith, in-order c .1)
 
 all-zero-requires : tie.Need-all-zero-requires
 all-zero-requires c κs = search needs
 
-returns-5 : tie.Need-returns-5
-returns-5 c =
-    let start = c .before .before .before .before .before .before .before .before .before .before .before .before .before .before .before in
-    let args = start .args in
-    let pre = start .pre in
-    let if1 = c .before .before .before .before .before .before .before .before .before .before .before .before .if1 in
-    let if2 = c .before .before .before .before .before .before .before .before .before .before .if2 in
-    let name-offset = c .before .before .before .before .before .before .before .before .before .name-offset in
-    let valid-name = c .before .before .before .before .before .before .before .valid-name in
-    let if3 = c .before .before .before .before .before .before .if3 in
-    let payload-offset = c .before .before .before .before .before .payload-offset in
-    let payload-len = c .before .before .before .before .payload-len in
-    let if4 = c .before .before .before .if4 in
-    let all-zero = c .before .all-zero in
+-- what is left to test, where the payload fits
+left-to-test : (c : tie.Else4) → let args = c .before .before .before .before .before .before .before .before .before .before .before .before .args in
     let s = args .slot .now in
-    sym (used-tests (formatOf (args .kind)) s (name-offset .result) (payload-offset .result) (payload-len .result) (name-offset .ensures)
-    (payload-offset .ensures) (payload-len .ensures) pre
+    let name-end = c .before .before .before .before .before .before .name-offset .result + nameLength s in
+    let payload = c .before .before .payload-offset .result in
+    let payload-end = payload + c .before .payload-len .result in
+    slotUsed (formatOf (args .kind)) s
+    ≡ (allZero (take (payload - name-end) (drop name-end s)) && allZero (take (length s - payload-end) (drop payload-end s)))
+left-to-test c =
+    let start = c .before .before .before .before .before .before .before .before .before .before .before .before in
+    let if1 = c .before .before .before .before .before .before .before .before .before .if1 in
+    let if2 = c .before .before .before .before .before .before .before .if2 in
+    let name-offset = c .before .before .before .before .before .before .name-offset in
+    let valid-name = c .before .before .before .before .valid-name in
+    let if3 = c .before .before .before .if3 in
+    let payload-offset = c .before .before .payload-offset in
+    let payload-len = c .before .payload-len in
+    let s = start .args .slot .now in
+    used-tests (formatOf (start .args .kind)) s (name-offset .result) (payload-offset .result) (payload-len .result) (name-offset .ensures)
+    (payload-offset .ensures) (payload-len .ensures) (start .pre)
     ∙ rw (
       eq-eqb (stateByte s) 1 (if1 .left),
       le-leb (nameLength s) 64 (if2 .left),
-      sym (valid-name .ensures)
-          ∙ not-false (valid-name .result) (if3 .left),
-      le-leb (payload-len .result) (length s - payload-offset .result) (if4 .left),
-      sym
-          (all-zero .ensures) ∙ not-true (all-zero .result) (c .if5 .taken),
-    ))
+      sym (valid-name .ensures) ∙ not-false (valid-name .result) (if3 .left),
+      le-leb (payload-len .result) (length s - payload-offset .result) (c .if4 .left),
+    )
+
+returns-5 : tie.Need-returns-5
+returns-5 c =
+    let all-zero = c .before .all-zero in
+    sym (left-to-test (c .before .before .before) ∙ rw (sym (all-zero .ensures) ∙ not-true (all-zero .result) (c .if5 .taken)))
 
 add-end : tie.Need-add-end
-add-end c =
-    let start = c .before .before .before .before .before .before .before .before .before .before .before .before .before .before .before in
-    let args = start .args in
-    let pre = start .pre in
-    let payload-offset = c .before .before .before .before .before .payload-offset in
-    let if4 = c .before .before .before .if4 in
-    let k = numbers (args .kind) in omega (arith, payload-offset .ensures, if4 .left, pre)
+add-end c = omega (arith, in-order (c .before .before .before) .1)
 
 sub-all-zero-2 : tie.Need-sub-all-zero-2
-sub-all-zero-2 c =
-    let start = c .before .before .before .before .before .before .before .before .before .before .before .before .before .before .before in
-    let args = start .args in
-    let pre = start .pre in
-    let payload-offset = c .before .before .before .before .before .payload-offset in
-    let if4 = c .before .before .before .if4 in
-    let k = numbers (args .kind) in omega (arith, payload-offset .ensures, if4 .left, pre)
+sub-all-zero-2 c = in-order (c .before .before .before) .1
 
 part-all-zero-start-2 : tie.Need-part-all-zero-start-2
-part-all-zero-start-2 c =
-    let start = c .before .before .before .before .before .before .before .before .before .before .before .before .before .before .before in
-    let args = start .args in
-    let pre = start .pre in
-    let payload-offset = c .before .before .before .before .before .payload-offset in
-    let if4 = c .before .before .before .if4 in
-    let k = numbers (args .kind) in omega (arith, payload-offset .ensures, if4 .left, pre)
+part-all-zero-start-2 c = in-order (c .before .before .before) .1
 
 part-all-zero-end-2 : tie.Need-part-all-zero-end-2
-part-all-zero-end-2 c =
-    let start = c .before .before .before .before .before .before .before .before .before .before .before .before .before .before .before in
-    let args = start .args in
-    let pre = start .pre in
-    let payload-offset = c .before .before .before .before .before .payload-offset in
-    let if4 = c .before .before .before .if4 in
-    let k = numbers (args .kind) in omega (arith, payload-offset .ensures, if4 .left, pre)
+part-all-zero-end-2 c = search needs
 
 all-zero-requires-2 : tie.Need-all-zero-requires-2
 all-zero-requires-2 c κs = search needs
 
 returns-6 : tie.Need-returns-6
 returns-6 c =
-    let start = c .before .before .before .before .before .before .before .before .before .before .before .before .before .before .before .before
-    .before in
-    let args = start .args in
-    let pre = start .pre in
-    let if1 = c .before .before .before .before .before .before .before .before .before .before .before .before .before .before .if1 in
-    let if2 = c .before .before .before .before .before .before .before .before .before .before .before .before .if2 in
-    let name-offset = c .before .before .before .before .before .before .before .before .before .before .before .name-offset in
-    let valid-name = c .before .before .before .before .before .before .before .before .before .valid-name in
-    let if3 = c .before .before .before .before .before .before .before .before .if3 in
-    let payload-offset = c .before .before .before .before .before .before .before .payload-offset in
-    let payload-len = c .before .before .before .before .before .before .payload-len in
-    let if4 = c .before .before .before .before .before .if4 in
     let all-zero = c .before .before .before .all-zero in
     let if5 = c .before .before .if5 in
-    let s = args .slot .now in
-    c .all-zero2 .ensures ∙ sym (used-tests (formatOf (args .kind)) s (name-offset .result) (payload-offset .result) (payload-len .result)
-    (name-offset .ensures) (payload-offset .ensures) (payload-len .ensures) pre
-    ∙ rw (
-      eq-eqb (stateByte s) 1 (if1 .left),
-      le-leb (nameLength s) 64 (if2 .left),
-      sym (valid-name .ensures)
-          ∙ not-false (valid-name .result) (if3 .left),
-      le-leb (payload-len .result) (length s - payload-offset .result) (if4 .left),
-      sym
-          (all-zero .ensures) ∙ not-false (all-zero .result) (if5 .left),
-    ))
+    c .all-zero2 .ensures
+    ∙ sym (left-to-test (c .before .before .before .before .before) ∙ rw (sym (all-zero .ensures) ∙ not-false (all-zero .result) (if5 .left)))
 
 pub slot-used-spec : {M : Type 1} → statement M
 slot-used-spec =

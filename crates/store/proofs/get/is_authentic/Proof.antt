@@ -19,7 +19,11 @@ mac-ok-requires : tie.Need-mac-ok-requires
 mac-ok-requires c κs = search needs
 
 returns-2 : tie.Need-returns-2
-returns-2 c = c .mac-ok .ensures ∙ rw (← c .before .before .before .record-flags .ensures, is-true (c .before .before .require-integrity .ensures) (c .before .if1 .left)) (sym (Bool·not-not _))
+returns-2 c =
+    let record-flags = c .before .before .before .record-flags in
+    let require-integrity = c .before .before .require-integrity in
+    let if1 = c .before .if1 in
+    c .mac-ok .ensures ∙ rw (← record-flags .ensures, is-true (require-integrity .ensures) (if1 .left)) (sym (Bool·not-not _))
 
 pub is-authentic-spec : {M : Type 1} → statement M
 is-authentic-spec =

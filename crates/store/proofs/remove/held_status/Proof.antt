@@ -1,54 +1,69 @@
 -- `store::remove::held_status`: 6, 8, 7.
 use mathlib.Core.Path.{sym, _∙_}
 use borrow.Author.Needs.{needs}
-use Rattle.spec.specs.Area.{kvFormat, lookup}
+use borrow.Author.Tests.{not-true, not-false}
 use Rattle.spec.specs.Status.{refuseIf}
 use Rattle.spec.specs.Decisions.{removeHeld}
-use Rattle.store.proofs.Tests.{is-false, is-true, is-none, found}
+use Rattle.store.proofs.Tests.{is-false, is-true}
 use Rattle.store.proofs.remove.held_status.Statement.{statement}
 use Rattle.store.proofs.remove.held_status.Tie as tie
 
-has-name-requires : tie.Need-has-name-requires
-has-name-requires c κs = search needs
-
 returns : tie.Need-returns
 unfolding removeHeld refuseIf
-returns c = rw (is-none (lookup kvFormat (c .before .before .before .before .args .kv .now) (c .before .before .before .before .args .name .now)) (is-false (c .before .has-name .ensures) (c .if1 .taken)))
+returns c =
+    let args = c .before .before .args in
+    rw (not-true (args .held) (c .if1 .taken))
 
-payload-of-requires : tie.Need-payload-of-requires
-payload-of-requires c κs = search needs
+returns-2 : tie.Need-returns-2
+unfolding removeHeld refuseIf
+returns-2 c =
+    let args = c .before .before .before .before .args in
+    let if1 = c .before .before .if1 in
+    let record-valid = c .before .record-valid in
+    rw (not-false (args .held) (if1 .left), is-false (record-valid .ensures) (c .if2 .taken))
+
+record-flags-requires : tie.Need-record-flags-requires
+record-flags-requires c κs =
+    let record-valid = c .before .record-valid in
+    is-true (record-valid .ensures) (c .if2 .left)
+
+returns-3 : tie.Need-returns-3
+unfolding removeHeld refuseIf
+returns-3 c =
+    let args = c .before .before .before .before .before .before .before .args in
+    let if1 = c .before .before .before .before .before .if1 in
+    let record-valid = c .before .before .before .before .record-valid in
+    let if2 = c .before .before .before .if2 in
+    let record-flags = c .before .before .record-flags in
+    let write-once = c .before .write-once in
+    rw (
+      not-false (args .held) (if1 .left),
+      is-true (record-valid .ensures) (if2 .left),
+      ← record-flags .ensures,
+      sym (write-once .ensures) ∙ c .if3 .taken,
+    )
+
+returns-4 : tie.Need-returns-4
+unfolding removeHeld refuseIf
+returns-4 c =
+    let args = c .before .before .before .before .before .before .before .args in
+    let if1 = c .before .before .before .before .before .if1 in
+    let record-valid = c .before .before .before .before .record-valid in
+    let if2 = c .before .before .before .if2 in
+    let record-flags = c .before .before .record-flags in
+    let write-once = c .before .write-once in
+    rw (
+      not-false (args .held) (if1 .left),
+      is-true (record-valid .ensures) (if2 .left),
+      ← record-flags .ensures,
+      sym (write-once .ensures) ∙ c .if3 .left,
+    )
 
 record-valid-requires : tie.Need-record-valid-requires
 record-valid-requires c κs = search needs
 
-returns-2 : tie.Need-returns-2
-unfolding removeHeld refuseIf
-returns-2 c = rw (found (lookup kvFormat (c .before .before .before .before .before .before .before .args .kv .now) (c .before .before .before .before .before .before .before .args .name .now)) _ (is-true (c .before .before .before .before .has-name .ensures) (c .before .before .before .if1 .left)) (c .before .before .payload-of .ensures), is-false (c .before .record-valid .ensures) (c .if2 .taken))
-
-record-flags-requires : tie.Need-record-flags-requires
-record-flags-requires c κs = is-true (c .before .record-valid .ensures) (c .if2 .left)
-
 write-once-requires : tie.Need-write-once-requires
 write-once-requires c κs = search needs
 
-returns-3 : tie.Need-returns-3
-unfolding removeHeld refuseIf
-returns-3 c = rw (found (lookup kvFormat (c .before .before .before .before .before .before .before .before .before .before .args .kv .now) (c .before .before .before .before .before .before .before .before .before .before .args .name .now)) _ (is-true (c .before .before .before .before .before .before .before .has-name .ensures) (c .before .before .before .before .before .before .if1 .left)) (c .before .before .before .before .before .payload-of .ensures), is-true (c .before .before .before .before .record-valid .ensures) (c .before .before .before .if2 .left), ← c .before .before .record-flags .ensures, sym (c .before .write-once .ensures) ∙ c .if3 .taken)
-
-returns-4 : tie.Need-returns-4
-unfolding removeHeld refuseIf
-returns-4 c = rw (found (lookup kvFormat (c .before .before .before .before .before .before .before .before .before .before .args .kv .now) (c .before .before .before .before .before .before .before .before .before .before .args .name .now)) _ (is-true (c .before .before .before .before .before .before .before .has-name .ensures) (c .before .before .before .before .before .before .if1 .left)) (c .before .before .before .before .before .payload-of .ensures), is-true (c .before .before .before .before .record-valid .ensures) (c .before .before .before .if2 .left), ← c .before .before .record-flags .ensures, sym (c .before .write-once .ensures) ∙ c .if3 .left)
-
 pub held-status-spec : {M : Type 1} → statement M
-held-status-spec =
-    tie.close
-    (tie.spec
-    has-name-requires
-    returns
-    payload-of-requires
-    record-valid-requires
-    returns-2
-    record-flags-requires
-    write-once-requires
-    returns-3
-    returns-4)
+held-status-spec = tie.close (tie.spec returns record-valid-requires returns-2 record-flags-requires write-once-requires returns-3 returns-4)

@@ -1,45 +1,66 @@
--- `store::set::space_status`: 10 where the card, or with replay protection the chip, lacks a slot.
+-- `store::set::space_status`: 10 where a slot that is needed is not there.
 use mathlib.Core.Path.{sym, _∙_}
+use mathlib.Core.List.{[]}
 use borrow.Author.Needs.{needs}
 use Rattle.spec.specs.Status.{refuseIf}
-use Rattle.store.proofs.Guards.{kv-sized, rbp-sized, kv-intact, rbp-intact}
-use Rattle.store.proofs.Tests.{is-false, is-true}
+use Rattle.store.proofs.Given.{some-given}
 use Rattle.store.proofs.set.space_status.Statement.{statement}
 use Rattle.store.proofs.set.space_status.Tie as tie
 
-lacks-slot-requires : tie.Need-lacks-slot-requires
-lacks-slot-requires c κs = (kv-sized (c .before .before .before .args .kv .now) (c .before .before .before .args .rbp .now) (c .before .before .before .pre .0), kv-intact (c .before .before .before .args .kv .now) (c .before .before .before .args .rbp .now) (c .before .before .before .pre .1))
-
 returns : tie.Need-returns
 unfolding refuseIf
-returns c = rw (sym (c .before .lacks-slot .ensures) ∙ c .if1 .taken)
+returns c =
+    let args = c .before .before .args in
+    let both = c .before .both in
+    rw (some-given (args .held) [], sym (both .ensures) ∙ c .if1 .taken)
+
+returns-2 : tie.Need-returns-2
+unfolding refuseIf
+returns-2 c =
+    let args = c .before .before .before .before .before .before .args in
+    let both = c .before .before .before .before .before .both in
+    let if1 = c .before .before .before .before .if1 in
+    let both2 = c .before .before .before .both2 in
+    let require-replay-protection = c .before .before .require-replay-protection in
+    let both3 = c .before .both3 in
+    rw (
+      some-given (args .held) [],
+      some-given (args .tag-held) [],
+      sym (both .ensures) ∙ if1 .left,
+      ← require-replay-protection .ensures,
+      ← both2 .ensures,
+      sym (both3 .ensures) ∙ c .if2 .taken,
+    )
+
+returns-3 : tie.Need-returns-3
+unfolding refuseIf
+returns-3 c =
+    let args = c .before .before .before .before .before .before .args in
+    let both = c .before .before .before .before .before .both in
+    let if1 = c .before .before .before .before .if1 in
+    let both2 = c .before .before .before .both2 in
+    let require-replay-protection = c .before .before .require-replay-protection in
+    let both3 = c .before .both3 in
+    rw (
+      some-given (args .held) [],
+      some-given (args .tag-held) [],
+      sym (both .ensures) ∙ if1 .left,
+      ← require-replay-protection .ensures,
+      ← both2 .ensures,
+      sym (both3 .ensures) ∙ c .if2 .left,
+    )
+
+both-requires : tie.Need-both-requires
+both-requires c κs = search needs
+
+both-requires-2 : tie.Need-both-requires-2
+both-requires-2 c κs = search needs
 
 require-replay-protection-requires : tie.Need-require-replay-protection-requires
 require-replay-protection-requires c κs = search needs
 
-returns-2 : tie.Need-returns-2
-unfolding refuseIf
-returns-2 c = rw (sym (c .before .before .before .lacks-slot .ensures) ∙ c .before .before .if1 .left, is-false (c .before .require-replay-protection .ensures) (c .if2 .taken))
-
-lacks-slot-requires-2 : tie.Need-lacks-slot-requires-2
-lacks-slot-requires-2 c κs = (rbp-sized (c .before .before .before .before .before .before .before .args .kv .now) (c .before .before .before .before .before .before .before .args .rbp .now) (c .before .before .before .before .before .before .before .pre .0), rbp-intact (c .before .before .before .before .before .before .before .args .kv .now) (c .before .before .before .before .before .before .before .args .rbp .now) (c .before .before .before .before .before .before .before .pre .1))
-
-returns-3 : tie.Need-returns-3
-unfolding refuseIf
-returns-3 c = rw (sym (c .before .before .before .before .before .lacks-slot .ensures) ∙ c .before .before .before .before .if1 .left, is-true (c .before .before .before .require-replay-protection .ensures) (c .before .before .if2 .left), sym (c .before .lacks-slot2 .ensures) ∙ c .if3 .taken)
-
-returns-4 : tie.Need-returns-4
-unfolding refuseIf
-returns-4 c = rw (sym (c .before .before .before .before .before .lacks-slot .ensures) ∙ c .before .before .before .before .if1 .left, is-true (c .before .before .before .require-replay-protection .ensures) (c .before .before .if2 .left), sym (c .before .lacks-slot2 .ensures) ∙ c .if3 .left)
+both-requires-3 : tie.Need-both-requires-3
+both-requires-3 c κs = search needs
 
 pub space-status-spec : {M : Type 1} → statement M
-space-status-spec =
-    tie.close
-    (tie.spec
-    lacks-slot-requires
-    returns
-    require-replay-protection-requires
-    returns-2
-    lacks-slot-requires-2
-    returns-3
-    returns-4)
+space-status-spec = tie.close (tie.spec both-requires returns both-requires-2 require-replay-protection-requires both-requires-3 returns-2 returns-3)

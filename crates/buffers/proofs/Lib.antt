@@ -1,0 +1,6 @@
+pub mod Split
+pub mod Bytes
+pub mod Lists
+pub mod LittleEndian
+pub mod Folds
+pub mod Theorems

@@ -1,0 +1,56 @@
+-- Parts of byte strings, and byte strings put into a buffer one after the other. Assumes nothing.
+use mathlib.Core.Path.{_≡_, sym, ap, _∙_}
+use mathlib.Core.List.{List, [], _++_, append-assoc, append-nil}
+use Prim.Native.Nat.{ℕ, _+_, _-_, _≤_}
+use native.Mathlib.Omega.{arith}
+use lib.ListN.{length, take, drop, length-take, length-drop, drop-of-length-le}
+use lib.Seq.{take-length, take-all, take-at, drop-append-add, drop-drop}
+use borrow.Rule.Slice.PartMut.{putMid}
+use Rattle.buffers.specs.Bytes.{zeros, zeroFill, putAt}
+use Rattle.buffers.proofs.Bytes.{drop-zeros}
+
+-- a copy that reaches the end of its target
+pub copied : (s d : List ℕ) → length d ≤ length s → take (length s) s ++ drop (length s) d ≡ s
+copied s d h = rw (take-length s, drop-of-length-le d {i = length s} h) (append-nil s)
+
+-- what a copy of n bytes leaves
+pub copied-front : (src dst : List ℕ) (n : ℕ) → length src ≡ n → take (length src) src ++ drop (length src) dst ≡ src ++ drop n dst
+copied-front src dst n h = rw (take-length src, h)
+
+-- `&l[o..o + n]`
+pub part : (o n : ℕ) (l : List ℕ) → take (o + n - o) (drop o l) ≡ take n (drop o l)
+part o n l = let e : o + n - o ≡ n = omega arith in rw e
+
+-- a part that goes on to the end
+pub rest-part : (l : List ℕ) (a : ℕ) → take (length l - a) (drop a l) ≡ drop a l
+rest-part l a = take-all (length l - a) (drop a l) (rw length-drop (omega arith))
+
+-- a part of n bytes, and what is left where it comes back
+pub part-length : (d : List ℕ) (at n : ℕ) → at + n ≤ length d → length (take (at + n - at) (drop at d)) ≡ n
+part-length d at n h = rw (length-take, length-drop) (omega arith)
+
+pub part-back : (d last s : List ℕ) (at n : ℕ) → last ≡ s → length s ≡ n → putMid at (at + n - at) d last ≡ putAt d at s
+part-back d last s at n e h =
+    let k : at + n - at ≡ length s = omega arith in
+    rw (e, k, drop-drop (length s) at d)
+
+-- the next byte string, behind those that are there
+pub put-next : (d front s : List ℕ) (at : ℕ) → length front ≡ at → putAt (front ++ drop at d) at s ≡ (front ++ s) ++ drop (at + length s) d
+put-next d front s at h =
+    let e : drop (at + length s) (front ++ drop at d) ≡ drop (at + length s) d =
+    ap (λ (k : ℕ). drop (k + length s) (front ++ drop at d)) (sym h) ∙ drop-append-add front (drop at d) (length s) ∙ drop-drop (length s) at d in
+    rw (take-at front (drop at d) at h, e) (sym (append-assoc front s (drop (at + length s) d)))
+
+-- what a buffer of zeros holds behind its front
+pub fill : (n k : ℕ) (l : List ℕ) → length l ≡ k → l ++ drop k (zeros n) ≡ zeroFill n l
+fill n k l h = rw (drop-zeros n k, h)
+
+-- a copy into a part
+pub pasted : (at : ℕ) (dst src : List ℕ)
+    → let n = at + length src - at in
+    take at dst ++ ((take (length src) src ++ drop (length src) (take n (drop at dst))) ++ drop n (drop at dst)) ≡ putAt dst at src
+pasted at dst src =
+    let e : at + length src - at ≡ length src = omega arith in
+    let z : drop (length src) (take (length src) (drop at dst)) ≡ [] =
+    drop-of-length-le (take (length src) (drop at dst)) {i = length src} (omega (arith, length-take (length src) (drop at dst))) in
+    rw (e, take-length src, z, append-nil src, drop-drop (length src) at dst)
