@@ -1,0 +1,9 @@
+pub mod Split
+pub mod PartSteps
+pub mod Written
+pub mod HexSteps
+pub mod DecimalSteps
+pub mod PartLaws
+pub mod HexLaws
+pub mod DecimalLaws
+pub mod Theorems

@@ -1,0 +1,5 @@
+pub mod Parts
+pub mod Written
+pub mod Hex
+pub mod Decimal
+pub mod Laws
