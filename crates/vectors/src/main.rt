@@ -1,95 +1,108 @@
-// Runs the published vectors of data/ through the crate cipher, and writes for each group how many passed, of how many.
-// A line that cannot be read counts as one that failed.
-mod aes;
-mod cmac;
-mod ctr;
-mod hex;
-mod kdf;
-mod parts;
+// Runs the published vectors of data/ through the crate cipher, as data/trials.tsv lists them. Writes for each entry of the list how many
+// trials gave what is published, of how many, and before that each line that differs; the last line is the verdict.
+mod counter;
+mod fields;
+mod list;
 mod tally;
-mod text;
+mod trials;
 
+use fields::named;
+use fields::part;
+use fields::read_bytes;
+use io::print_decimal;
 use libc::STDOUT_FILENO;
 use tally::Tally;
-ghost use Prim.Native.Nat.{_<_};
-ghost use lib.ListN.{length};
+use text::parts::field;
+use text::parts::line;
+use text::parts::line_count;
+ghost use Prim.Native.Nat.{_<_, _≤_};
 ghost use Rattle.io.specs.Counts.{Counts};
 
-// What is tried on each line of a file. A number is the field of the tag.
-enum Test {
-    Block,
-    KeyExpansion,
-    CtrBlock,
-    CtrMessage,
-    Subkeys,
-    Cmac(usize),
-    CmacFeeds(usize),
-    Kdf,
-    KdfParts,
+fn print(words: &[u8]) {
+    io::write_all(STDOUT_FILENO, words);
 }
 
-// What the first field of each line is: a number that counts up from the one given, or anything.
-enum Label {
-    From(usize),
-    Any,
+fn print_entry(entry: &[u8]) {
+    print(field(entry, 0));
+    print(b" ");
+    print(field(entry, 1));
+    print(b": ");
 }
 
-fn is_labelled(label: Label, fields: &[u8], index: usize) -> bool {
-    match label {
-        Label::From(first) => text::is_number(
-            text::field(fields, 0),
-            std::num::wrapping_add_usize(first, index),
-        ),
-        Label::Any => true,
+// A trial at every step before the end.
+fn run_places(
+    trial: u8,
+    entry: &[u8],
+    text: &[u8],
+    fields: &[u8],
+    index: usize,
+    end: usize,
+    step: usize,
+) -> Tally
+    requires { ⌜ (end ≤ 161) × (step ≤ 16) × (0 < step) ⌝ }
+{
+    let mut tally = Tally::zero();
+    let mut at = 0;
+    while at < end {
+        tally = tally.with(trials::passes(trial, entry, text, fields, index, at));
+        at += step;
     }
+    tally
 }
 
-fn run_line(test: Test, text: &[u8], line: &[u8], index: usize) -> Tally {
-    match test {
-        Test::Block => Tally::of(aes::block_passes(line)),
-        Test::KeyExpansion => Tally::of(aes::word_passes(text, line, index)),
-        Test::CtrBlock => Tally::of(ctr::block_passes(line)),
-        Test::CtrMessage => Tally::of(ctr::message_passes(text, line, index)),
-        Test::Subkeys => Tally::of(cmac::subkeys_pass(line)),
-        Test::Cmac(k) => Tally::of(cmac::tag_passes(line, k)),
-        Test::CmacFeeds(k) => cmac::tally_feeds(line, k),
-        Test::Kdf => Tally::of(kdf::key_passes(line)),
-        Test::KdfParts => kdf::tally_parts(line),
+// Each block of the output, or each place where the input can be divided. A line that cannot be read is one trial that differs.
+fn run_fields(trial: u8, entry: &[u8], text: &[u8], fields: &[u8], index: usize) -> Tally {
+    if !list::is_readable(trial, entry, fields, index) {
+        return Tally::failed();
+    }
+    if list::is_divided(trial) {
+        let input = read_bytes(named(entry, list::INPUT, fields));
+        run_places(trial, entry, text, fields, index, input.size + 1, 1)
+    } else {
+        let output = read_bytes(named(entry, list::OUTPUT, fields));
+        run_places(trial, entry, text, fields, index, output.size, 16)
     }
 }
 
 // The line at an index, counted from 0 after the header.
-fn run_labelled(test: Test, label: Label, text: &[u8], index: usize) -> Tally
-    requires { ⌜ index < length (now text) ⌝ }
-{
-    let line = text::line(text, index + 1);
-    if is_labelled(label, line, index) {
-        run_line(test, text, line, index)
+fn run_line(trial: u8, entry: &[u8], text: &[u8], index: usize) -> Tally {
+    let number = std::num::wrapping_add_usize(index, 1);
+    let tally = run_fields(trial, entry, text, line(text, number), index);
+    if tally.passed != tally.tried {
+        print_entry(entry);
+        print(b"line ");
+        print_decimal(STDOUT_FILENO, std::num::wrapping_add_u64(number as u64, 1));
+        print(b" differs\n");
+    }
+    tally
+}
+
+// How many lines stand after the one that names the columns.
+fn rows(text: &[u8]) -> usize {
+    let lines = line_count(text);
+    if lines < 1 {
+        return 0;
+    }
+    if check::same(part(text, 0, 2), b"# ") {
+        lines - 1
     } else {
-        Tally::of(false)
+        0
     }
 }
 
-fn run_lines(test: Test, label: Label, text: &[u8]) -> Tally {
-    let lines = text::lines_after_first(text);
-    let mut tally = Tally::zero();
+fn run_lines(entry: &[u8], text: &[u8]) -> Tally {
+    let trial = list::trial_of(entry);
+    let end = rows(text);
+    let mut tally = Tally::before(end);
     let mut index = 0;
-    while index < lines {
-        tally = tally.plus(run_labelled(test, label, text, index));
+    while index < end {
+        tally = tally.plus(run_line(trial, entry, text, index));
         index += 1;
     }
     tally
 }
 
-fn run_text(test: Test, label: Label, text: &[u8]) -> Tally {
-    if text::has_header(text) {
-        run_lines(test, label, text)
-    } else {
-        Tally::of(false)
-    }
-}
-
-// Puts a file's bytes at the start of buf, and answers how many, 0 where it cannot be opened.
+// Puts a file's bytes at the start of buf, and answers how many: 0 where it cannot be opened or does not fit.
 fn load(path: &[u8], buf: &mut [u8]) -> usize
     ensures { λ r. ⌜ Counts r (now (buf .exit)) ⌝ }
 {
@@ -100,87 +113,54 @@ fn load(path: &[u8], buf: &mut [u8]) -> usize
     }
     let n = io::read_full(fd, buf);
     libc::close(fd);
+    if n == buf.len() {
+        return 0;
+    }
     n
 }
 
-// A file's name without .tsv.
-fn group(path: &[u8]) -> &[u8] {
-    if path.len() < 4 {
-        return path;
-    }
-    text::cut(path, path.len() - 4)
-}
-
-// What tells a second test on a file from the first.
-fn print_test(test: Test) {
-    match test {
-        Test::CtrMessage => {
-            io::write_all(STDOUT_FILENO, b" as one message");
-        }
-        Test::CmacFeeds(_) => {
-            io::write_all(STDOUT_FILENO, b" in two feeds");
-        }
-        Test::KdfParts => {
-            io::write_all(STDOUT_FILENO, b" in two parts");
-        }
-        _ => {}
-    }
-}
-
-fn print_tally(tally: Tally) {
-    io::write_all(STDOUT_FILENO, b": ");
-    io::print_decimal(STDOUT_FILENO, tally.passed);
-    io::write_all(STDOUT_FILENO, b" of ");
-    io::print_decimal(STDOUT_FILENO, tally.tried);
-    io::write_all(STDOUT_FILENO, b"\n");
-}
-
-fn run(path: &[u8], test: Test, label: Label) {
+fn run_entry(entry: &[u8]) -> Tally {
     let mut buf = io::large_buffer();
-    let n = load(path, &mut buf);
-    let tally = run_text(test, label, &buf[..n]);
-    io::write_all(STDOUT_FILENO, group(path));
-    print_test(test);
-    print_tally(tally);
+    let n = load(field(entry, 0), &mut buf);
+    let tally = run_lines(entry, &buf[..n]);
+    print_entry(entry);
+    print_decimal(STDOUT_FILENO, tally.passed);
+    print(b" of ");
+    print_decimal(STDOUT_FILENO, tally.tried);
+    print(b"\n");
+    tally
 }
 
-fn run_blocks() {
-    run(b"aes128-fips197.tsv", Test::Block, Label::Any);
-    run(
-        b"aes128-key-expansion.tsv",
-        Test::KeyExpansion,
-        Label::From(0),
+fn run_list(list: &[u8]) -> Tally {
+    let end = rows(list);
+    let mut tally = Tally::before(end);
+    let mut k = 0;
+    while k < end {
+        k += 1;
+        tally = tally.plus(run_entry(line(list, k)));
+    }
+    tally
+}
+
+fn print_verdict(tally: Tally) {
+    print(b"vectors: ");
+    if tally.passed == tally.tried {
+        print(b"all ");
+        print_decimal(STDOUT_FILENO, tally.tried);
+        print(b" trials as published\n");
+        return;
+    }
+    print_decimal(
+        STDOUT_FILENO,
+        std::num::wrapping_sub_u64(tally.tried, tally.passed),
     );
-    run(b"aes128-ecb-gfsbox.tsv", Test::Block, Label::From(0));
-    run(b"aes128-ecb-keysbox.tsv", Test::Block, Label::From(0));
-    run(b"aes128-ecb-vartxt.tsv", Test::Block, Label::From(0));
-    run(b"aes128-ecb-varkey.tsv", Test::Block, Label::From(0));
-    run(b"aes128-ecb-sp800-38a.tsv", Test::Block, Label::From(1));
-}
-
-fn run_ctr(path: &[u8]) {
-    run(path, Test::CtrBlock, Label::From(1));
-    run(path, Test::CtrMessage, Label::From(1));
-}
-
-// The tag is field k.
-fn run_cmac(path: &[u8], k: usize, first: usize) {
-    run(path, Test::Cmac(k), Label::From(first));
-    run(path, Test::CmacFeeds(k), Label::From(first));
-}
-
-fn run_kdf(path: &[u8]) {
-    run(path, Test::Kdf, Label::From(0));
-    run(path, Test::KdfParts, Label::From(0));
+    print(b" of ");
+    print_decimal(STDOUT_FILENO, tally.tried);
+    print(b" trials differ\n");
 }
 
 fn main() {
-    run_blocks();
-    run_ctr(b"aes128-ctr-sp800-38a-encrypt.tsv");
-    run_ctr(b"aes128-ctr-sp800-38a-decrypt.tsv");
-    run(b"cmac-aes128-subkeys.tsv", Test::Subkeys, Label::Any);
-    run_cmac(b"cmac-aes128-sp800-38b.tsv", 4, 1);
-    run_cmac(b"cmac-aes128-nist-example-160.tsv", 4, 3);
-    run_cmac(b"cmac-aes128-cavp.tsv", 5, 32);
-    run_kdf(b"kdf-ctr-cmac-aes128-cavp.tsv");
+    let mut buf = io::buffer();
+    let n = load(b"trials.tsv", &mut buf);
+    print_verdict(run_list(&buf[..n]));
 }

@@ -1,7 +1,7 @@
-// How many tests passed, of how many.
+// How many trials gave what is published, of how many.
 use std::num::wrapping_add_u64;
 
-// Sums wrap so that no bound has to be carried: no run comes near 2^64 tests.
+// Sums wrap so that no bound has to be carried: no run comes near 2^64 trials.
 pub struct Tally {
     pub passed: u64,
     pub tried: u64,
@@ -15,8 +15,21 @@ impl Tally {
         }
     }
 
-    pub fn of(passes: bool) -> Self {
-        Tally::zero().with(passes)
+    // What cannot be read is one trial that failed.
+    pub fn failed() -> Self {
+        Tally {
+            passed: 0,
+            tried: 1,
+        }
+    }
+
+    // The start of a sum over so many lines: a file that has none has failed.
+    pub fn before(lines: usize) -> Self {
+        if lines < 1 {
+            Tally::failed()
+        } else {
+            Tally::zero()
+        }
     }
 
     pub fn with(self, passes: bool) -> Self {

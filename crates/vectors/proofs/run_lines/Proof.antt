@@ -1,27 +1,29 @@
 -- `run_lines` is safe and ends: it runs each line once.
 use borrow.Author.Needs.{needs}
 use Prim.Native.Nat.{_≤_, _-_}
-use lib.ListN.{length}
 use Rattle.vectors.proofs.run_lines.Statement.{statement}
 use Rattle.vectors.proofs.run_lines.Tie as tie
 
 abbrev Inv-loop : tie.InvT-loop
-Inv-loop test label text lines tally₀ index₀ tally index = (index ≤ lines) × (lines ≤ length text)
+Inv-loop entry text trial end tally₀ index₀ tally index = index ≤ end
 
 abbrev μ-loop : tie.MeasureT-loop
-μ-loop test label text lines tally₀ index₀ tally index = lines - index
+μ-loop entry text trial end tally₀ index₀ tally index = end - index
 
-lines-after-first-requires : tie.Need-lines-after-first-requires Inv-loop μ-loop
-lines-after-first-requires c κs = search needs
+trial-of-requires : tie.Need-trial-of-requires Inv-loop μ-loop
+trial-of-requires c κs = search needs
 
-zero-requires : tie.Need-zero-requires Inv-loop μ-loop
-zero-requires c κs = search needs
+rows-requires : tie.Need-rows-requires Inv-loop μ-loop
+rows-requires c κs = search needs
+
+before-requires : tie.Need-before-requires Inv-loop μ-loop
+before-requires c κs = search needs
 
 loop-holds : tie.Need-loop-holds Inv-loop μ-loop
 loop-holds c = search needs
 
-run-labelled-requires : tie.Need-run-labelled-requires Inv-loop μ-loop
-run-labelled-requires c κs = search needs
+run-line-requires : tie.Need-run-line-requires Inv-loop μ-loop
+run-line-requires c κs = search needs
 
 plus-requires : tie.Need-plus-requires Inv-loop μ-loop
 plus-requires c κs = search needs
@@ -44,10 +46,11 @@ run-lines-spec =
     (tie.spec
     Inv-loop
     μ-loop
-    lines-after-first-requires
-    zero-requires
+    trial-of-requires
+    rows-requires
+    before-requires
     loop-holds
-    run-labelled-requires
+    run-line-requires
     plus-requires
     add-index
     loop-less

@@ -1,12 +1,12 @@
--- `hex::column` is safe and ends: `i` stays within `out`, whose length no store changes.
+-- `fields::column` is safe and ends: `i` stays within `out`, whose length no store changes.
 use borrow.Author.Needs.{needs}
 use Prim.Native.Nat.{_≤_, _-_}
 use lib.ListN.{length, length-set}
 use native.Mathlib.Omega.{arith}
 use native.Mathlib.Nat.{div-le-self}
 use mathlib.Core.Path.{_≡_}
-use Rattle.vectors.proofs.hex.column.Statement.{statement}
-use Rattle.vectors.proofs.hex.column.Tie as tie
+use Rattle.vectors.proofs.fields.column.Statement.{statement}
+use Rattle.vectors.proofs.fields.column.Tie as tie
 
 abbrev Inv-loop : tie.InvT-loop
 Inv-loop text k size out₀ i₀ out i = (i ≤ length out) × (length out ≡ length out₀)
