@@ -56,20 +56,4 @@ mod tests {
             assert_eq!(k2.to_vec(), row.bytes(3));
         }
     }
-
-    #[test]
-    fn published_tags() {
-        let files = [
-            "cmac-aes128-sp800-38b.tsv",
-            "cmac-aes128-nist-example-160.tsv",
-        ];
-        for row in files.iter().flat_map(|file| rows(file)) {
-            let tag = cmac(&block(&row.bytes(1)), &row.bytes(3));
-            assert_eq!(tag.to_vec(), row.bytes(4));
-        }
-        for row in rows("cmac-aes128-cavp.tsv") {
-            let tag = cmac(&block(&row.bytes(1)), &row.bytes(3));
-            assert_eq!(tag[..row.number(4)], row.bytes(5)[..]);
-        }
-    }
 }

@@ -26,21 +26,6 @@ fn key_stream(cipher: &Aes128, iv: Iv) -> impl Iterator<Item = u8> + '_ {
 #[cfg(test)]
 mod tests {
     use super::*;
-    use crate::vectors::{block, rows};
-
-    // The published message starts its count elsewhere, so each of its blocks
-    // is tried as one AES block; the layout of 01 is tried on its own.
-    #[test]
-    fn published_blocks() {
-        for file in crate::vectors::CTR_BLOCKS {
-            for row in rows(file) {
-                let mask = Aes128::new(&block(&row.bytes(1))).encrypt(&block(&row.bytes(2)));
-                assert_eq!(mask.to_vec(), row.bytes(3));
-                let text: Vec<u8> = row.bytes(4).iter().zip(mask).map(|(a, b)| a ^ b).collect();
-                assert_eq!(text, row.bytes(5));
-            }
-        }
-    }
 
     #[test]
     fn counter_blocks_are_iv_then_count() {

@@ -1,29 +1,22 @@
 //! The published vectors that the product runs too: one a line, fields parted by tabs,
-//! hex, `-` for an empty field, the first line naming the columns.
+//! hex, `-` for an empty field, the first line naming the columns. `trials.tsv` lists
+//! what is tried on which columns.
 
 use crate::aes::Block;
-
-/// Files of key, plaintext and ciphertext blocks in columns 1, 2 and 3.
-pub const AES_BLOCKS: [&str; 6] = [
-    "aes128-fips197.tsv",
-    "aes128-ecb-gfsbox.tsv",
-    "aes128-ecb-keysbox.tsv",
-    "aes128-ecb-varkey.tsv",
-    "aes128-ecb-vartxt.tsv",
-    "aes128-ecb-sp800-38a.tsv",
-];
-
-/// Files of key, counter block, output block and two texts in columns 1 to 5.
-pub const CTR_BLOCKS: [&str; 2] = [
-    "aes128-ctr-sp800-38a-encrypt.tsv",
-    "aes128-ctr-sp800-38a-decrypt.tsv",
-];
 
 pub struct Row(Vec<String>);
 
 impl Row {
+    pub fn fields(&self) -> usize {
+        self.0.len()
+    }
+
+    pub fn text(&self, column: usize) -> &str {
+        &self.0[column]
+    }
+
     pub fn bytes(&self, column: usize) -> Vec<u8> {
-        match self.0[column].as_str() {
+        match self.text(column) {
             "-" => Vec::new(),
             digits => (0..digits.len())
                 .step_by(2)
@@ -33,23 +26,86 @@ impl Row {
     }
 
     pub fn number(&self, column: usize) -> usize {
-        self.0[column].parse().expect("a decimal number")
+        self.text(column).parse().expect("a decimal number")
     }
+}
+
+/// An entry of the list: what is tried on the rows of a file, and the columns of key,
+/// input and output.
+pub struct Trial {
+    pub file: String,
+    pub what: String,
+    pub key: usize,
+    pub input: usize,
+    pub output: usize,
+}
+
+pub fn trials() -> Vec<Trial> {
+    rows("trials.tsv")
+        .iter()
+        .map(|row| Trial {
+            file: row.text(0).into(),
+            what: row.text(1).into(),
+            key: row.number(4),
+            input: row.number(5),
+            output: row.number(6),
+        })
+        .collect()
+}
+
+fn read(path: &str) -> String {
+    let path = concat!(env!("CARGO_MANIFEST_DIR"), "/../crates/vectors/").to_string() + path;
+    std::fs::read_to_string(&path).unwrap_or_else(|why| panic!("{path}: {why}"))
 }
 
 /// The rows of a file, never none.
 pub fn rows(file: &str) -> Vec<Row> {
-    let path = concat!(env!("CARGO_MANIFEST_DIR"), "/../crates/vectors/data/").to_string() + file;
-    let text = std::fs::read_to_string(&path).unwrap_or_else(|why| panic!("{path}: {why}"));
-    let rows: Vec<Row> = text
+    let rows: Vec<Row> = read(&format!("data/{file}"))
         .lines()
         .filter(|line| !line.starts_with('#'))
         .map(|line| Row(line.split('\t').map(String::from).collect()))
         .collect();
-    assert!(!rows.is_empty(), "{path} holds no vector");
+    assert!(!rows.is_empty(), "{file} holds no vector");
     rows
 }
 
 pub fn block(bytes: &[u8]) -> Block {
     bytes.try_into().expect("16 bytes")
+}
+
+#[cfg(test)]
+mod tests {
+    use super::*;
+    use crate::aes::BLOCK;
+
+    // A trial for each block of output, or for each place where the input can be divided.
+    fn count(trial: &Trial, row: &Row) -> usize {
+        if trial.what.ends_with("at every division") {
+            row.bytes(trial.input).len() + 1
+        } else {
+            row.bytes(trial.output).chunks(BLOCK).count()
+        }
+    }
+
+    #[test]
+    fn the_output_expected_of_the_program_has_every_trial() {
+        let (mut expected, mut all) = (String::new(), 0);
+        for trial in trials() {
+            let n: usize = rows(&trial.file).iter().map(|row| count(&trial, row)).sum();
+            expected += &format!("{} {}: {n} of {n}\n", trial.file, trial.what);
+            all += n;
+        }
+        expected += &format!("vectors: all {all} trials as published\n");
+        assert_eq!(expected, read("stdout"));
+    }
+
+    #[test]
+    fn every_file_is_tried() {
+        let folder = concat!(env!("CARGO_MANIFEST_DIR"), "/../crates/vectors/data");
+        let tried: Vec<String> = trials().into_iter().map(|trial| trial.file).collect();
+        for entry in std::fs::read_dir(folder).expect("the folder of the vectors") {
+            let file = entry.expect("an entry").file_name().into_string().unwrap();
+            assert!(file == "trials.tsv" || tried.contains(&file), "{file}");
+        }
+    }
 }
