@@ -1,5 +1,6 @@
 //! The run: named checks, a line each, and the tables.
 
+use std::path::PathBuf;
 use std::thread;
 
 use reference::calls::Call;
@@ -20,6 +21,8 @@ pub struct Options {
     pub seed: u64,
     pub stories: u64,
     pub lists: u64,
+    /// Where the files of edges are.
+    pub edges: PathBuf,
 }
 
 /// Counts of named checks.
@@ -62,7 +65,7 @@ pub fn run(library: &dyn Library, options: &Options) -> Score {
     }
     let rng = Rng::part(options.seed, 6 << 40);
     score.check("random-key-files", parsing::random_key_files(library, rng));
-    for (name, checked) in edges::checks(library) {
+    for (name, checked) in edges::checks(library, &options.edges) {
         score.check(&name, checked);
     }
     for (name, checked) in orders::checks(library) {

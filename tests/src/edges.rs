@@ -1,336 +1,260 @@
-//! 01's "Edges to try" and "Wrong builds that look right", with the answers
-//! written here by hand; only the CMAC over a record is the reference's.
+//! The edges of the papers, from the files that the product's own program runs
+//! too: one line is one call with its arguments and the answer that 01 gives.
 
-use crate::area::{ENTRY, PLACE};
-use crate::calls::Call;
+use std::fs;
+use std::path::{Path, PathBuf};
+
 use crate::ciphers::Checked;
-use crate::keyfile::Attributes;
-use crate::library::Library;
-use crate::{cmac, kdf, show};
+use crate::library::{Library, Reference};
+use crate::words::Bench;
 
-const KEY: [u8; 16] = *b"0123456789abcdef";
-const IV: [u8; 8] = *b"iv-iv-iv";
+/// Where the files are unless the driver is told otherwise.
+pub const FOLDER: &str = concat!(env!("CARGO_MANIFEST_DIR"), "/../crates/edges/data");
 
-/// A card and chip that go from call to call.
-struct Bench<'a> {
-    library: &'a dyn Library,
-    card: Vec<u8>,
-    chip: Vec<u8>,
+/// Lines told in full; the rest are only counted.
+const TOLD: usize = 10;
+
+/// A group's name, how many of its lines were tried, and how many of them were as
+/// expected.
+struct Group {
+    name: String,
+    tried: usize,
+    good: usize,
 }
 
-type Step = Result<(), String>;
-
-impl Bench<'_> {
-    fn new(library: &dyn Library, places: usize, entries: usize) -> Bench<'_> {
-        Bench {
-            library,
-            card: vec![0; places * PLACE],
-            chip: vec![0; entries * ENTRY],
+/// Runs a file's lines: how many there were, or each that differs with file and number.
+pub fn run(library: &dyn Library, file: &str, text: &[u8]) -> Checked {
+    let mut bench = Bench::new(library);
+    let mut groups: Vec<Group> = Vec::new();
+    let mut told = Vec::new();
+    for (at, line) in text.split(|byte| *byte == b'\n').enumerate() {
+        let shown = String::from_utf8_lossy(line);
+        if let Some(name) = shown.strip_prefix('#') {
+            groups.push(Group {
+                name: name.trim().into(),
+                tried: 0,
+                good: 0,
+            });
+        } else if !line.is_empty() {
+            let outcome = match groups.last_mut() {
+                Some(group) => group.count(bench.line(line)),
+                None => Err("stands in no group".into()),
+            };
+            if let Err(why) = outcome {
+                told.push(format!("\n  {file}:{}: {shown}\n    {why}", at + 1));
+            }
         }
     }
+    verdict(&groups, &told)
+}
 
-    /// Runs the call, expects the number, and gives returned numbers and output.
-    fn run(&mut self, call: Call, number: u32) -> Result<([u64; 2], Vec<u8>), String> {
-        let got = self.library.call(&self.card, &self.chip, &call);
-        if let Some(stray) = got.strays.first() {
-            return Err(stray.clone());
+impl Group {
+    /// Counts a line that was tried, and one that only prepares if it could not be
+    /// carried out.
+    fn count(&mut self, outcome: Result<bool, String>) -> Result<bool, String> {
+        self.tried += usize::from(outcome != Ok(false));
+        self.good += usize::from(outcome == Ok(true));
+        outcome
+    }
+}
+
+fn verdict(groups: &[Group], told: &[String]) -> Checked {
+    let lines: usize = groups.iter().map(|group| group.tried).sum();
+    if !told.is_empty() {
+        let bad = groups.iter().filter(|group| group.good < group.tried);
+        let bad = bad.map(|group| format!("\n  {}: {} of {}", group.name, group.good, group.tried));
+        let told_first: String = told.iter().take(TOLD).cloned().chain(bad).collect();
+        return Err(format!(
+            "{} of {lines} lines differ{told_first}",
+            told.len()
+        ));
+    }
+    if groups.is_empty() {
+        return Err("no line".into());
+    }
+    match groups.iter().find(|group| group.tried == 0) {
+        Some(group) => Err(format!("no line in the group '{}'", group.name)),
+        None => Ok(format!("{lines} lines in {} groups", groups.len())),
+    }
+}
+
+/// The folder's files of edges, in the order of their names, never none.
+fn files(folder: &Path) -> Result<Vec<PathBuf>, String> {
+    let entries = fs::read_dir(folder).map_err(|why| format!("{}: {why}", folder.display()))?;
+    let mut files: Vec<PathBuf> = entries
+        .filter_map(|entry| Some(entry.ok()?.path()))
+        .filter(|path| path.extension().map_or(false, |kind| kind == "tsv"))
+        .collect();
+    files.sort();
+    if files.is_empty() {
+        return Err(format!("{}: no file of edges", folder.display()));
+    }
+    Ok(files)
+}
+
+/// Each file once on the library and once on the reference.
+pub fn checks(library: &dyn Library, folder: &Path) -> Vec<(String, Checked)> {
+    let files = match files(folder) {
+        Ok(files) => files,
+        Err(why) => return vec![("edges".into(), Err(why))],
+    };
+    let stores: [(&str, &dyn Library); 2] = [("library", library), ("reference", &Reference)];
+    let mut checks = Vec::new();
+    for path in files {
+        let name = path.file_name().unwrap_or_default().to_string_lossy();
+        let text = fs::read(&path).map_err(|why| why.to_string());
+        for (what, store) in stores {
+            let checked = text.clone().and_then(|text| run(store, &name, &text));
+            checks.push((format!("edges {name}: {what}"), checked));
         }
-        let answer = got.answer;
-        if answer.number != number {
-            let got = answer.number;
-            return Err(format!(
-                "{}: expected {number}, got {got}",
-                show::call(&call)
-            ));
-        }
-        if number != 0 {
-            let what = format!("{}: refused", show::call(&call));
-            expect(&(what.clone() + ", card"), &self.card, &answer.card)?;
-            expect(&(what + ", chip"), &self.chip, &answer.chip)?;
-        }
-        (self.card, self.chip) = (answer.card, answer.chip);
-        Ok((answer.returned, answer.output))
     }
-
-    fn set(&mut self, name: &[u8], flags: u32, data: &[u8], number: u32) -> Step {
-        self.set_with(&IV, name, flags, data, number)
-    }
-
-    fn set_with(&mut self, iv: &[u8], name: &[u8], flags: u32, data: &[u8], number: u32) -> Step {
-        let call = Call::Set {
-            key: KEY.to_vec(),
-            name: name.to_vec(),
-            flags,
-            iv: iv.to_vec(),
-            data: data.to_vec(),
-        };
-        self.run(call, number).map(drop)
-    }
-
-    /// Gets into an output of 0xee bytes and expects these at its front.
-    fn get(&mut self, name: &[u8], offset: usize, room: usize, front: &[u8]) -> Step {
-        let call = Call::Get {
-            key: KEY.to_vec(),
-            name: name.to_vec(),
-            offset,
-            output: vec![0xee; room],
-        };
-        let (returned, output) = self.run(call.clone(), 0)?;
-        let mut expected = vec![0xee; room];
-        expected[..front.len()].copy_from_slice(front);
-        expect(&show::call(&call), &expected, &output)?;
-        expect(&show::call(&call), &[front.len() as u64, 0], &returned)
-    }
-
-    fn get_refused(&mut self, name: &[u8], offset: usize, number: u32) -> Step {
-        let call = Call::Get {
-            key: KEY.to_vec(),
-            name: name.to_vec(),
-            offset,
-            output: vec![0xee; 4],
-        };
-        let (returned, output) = self.run(call.clone(), number)?;
-        expect(&show::call(&call), &[0xee; 4][..], &output)?;
-        expect(&show::call(&call), &[0, 0], &returned)
-    }
-
-    fn remove(&mut self, name: &[u8], number: u32) -> Step {
-        let name = name.to_vec();
-        self.run(Call::Remove { name }, number).map(drop)
-    }
-}
-
-fn expect<T: PartialEq + std::fmt::Debug + ?Sized>(what: &str, expected: &T, got: &T) -> Step {
-    if expected == got {
-        Ok(())
-    } else {
-        Err(format!("{what}: expected {expected:02x?}, got {got:02x?}"))
-    }
-}
-
-fn names(library: &dyn Library) -> Step {
-    let mut bench = Bench::new(library, 2, 1);
-    bench.set(&[b'n'; 64], 0, b"", 0)?;
-    bench.set(&[b'n'; 65], 0, b"", 3)?;
-    bench.set(b"", 0, b"", 3)?;
-    bench.set(b"a b", 0, b"", 3)?;
-    bench.set(b"a\x7f", 0, b"", 3)?;
-    bench.set(b"!~", 0, b"", 0)
-}
-
-fn data_sizes(library: &dyn Library) -> Step {
-    let mut bench = Bench::new(library, 1, 1);
-    bench.set(b"a", 0, &[0x77; 480], 0)?;
-    expect("record length", &[0x04, 0x02][..], &bench.card[2..4])?;
-    expect("data size", &[0xe0, 0x01, 0, 0][..], &bench.card[72..76])?;
-    bench.get(b"a", 0, 500, &[0x77; 480])?;
-    bench.set(b"a", 0, &[0x77; 481], 5)
-}
-
-fn flags(library: &dyn Library) -> Step {
-    let mut bench = Bench::new(library, 1, 1);
-    bench.set(b"a", 8, b"", 4)?;
-    bench.set(b"a", 16, b"", 4)?;
-    bench.set(b"a", 12, b"", 0)
-}
-
-fn whole_place(library: &dyn Library) -> Step {
-    let mut bench = Bench::new(library, 1, 1);
-    bench.set(b"a", 0, b"", 0)?;
-    let mut place = vec![0; PLACE];
-    place[..5].copy_from_slice(&[0x01, 0x01, 0x24, 0x00, 0x61]);
-    place[68..72].copy_from_slice(&[0x14, 0x00, 0x01, 0x00]);
-    expect("card", &place, &bench.card)?;
-    expect("chip", &vec![0; ENTRY], &bench.chip)
-}
-
-fn offsets(library: &dyn Library) -> Step {
-    let mut bench = Bench::new(library, 1, 1);
-    for flags in [0, 2, 6, 14] {
-        bench.card.fill(0);
-        bench.chip.fill(0);
-        bench.set(b"a", flags, b"twenty bytes of data", 0)?;
-        bench.get(b"a", 20, 8, b"")?;
-        bench.get_refused(b"a", 21, 14)?;
-        bench.get_refused(b"a", usize::MAX, 14)?;
-        // One key stream for the whole data, not one for each offset.
-        bench.get(b"a", 17, 8, b"ata")?;
-        bench.get(b"a", 3, 5, b"nty b")?;
-    }
-    Ok(())
-}
-
-fn write_once(library: &dyn Library) -> Step {
-    let mut bench = Bench::new(library, 1, 1);
-    bench.set(b"a", 13, b"1", 0)?;
-    bench.set(b"a", 13, b"2", 7)?;
-    bench.set(b"a", 12, b"2", 7)?;
-    bench.remove(b"a", 7)?;
-    bench.get(b"a", 0, 1, b"1")?;
-    // Gone from the card, but the chip remembers.
-    bench.card.fill(0);
-    bench.set(b"a", 13, b"2", 7)?;
-    bench.get_refused(b"a", 0, 12)
-}
-
-fn room(library: &dyn Library) -> Step {
-    let mut bench = Bench::new(library, 2, 1);
-    bench.set(b"a", 0, b"1", 0)?;
-    bench.set(b"b", 12, b"2", 0)?;
-    bench.set(b"c", 0, b"3", 10)?;
-    bench.set(b"b", 12, b"4", 0)?;
-    bench.remove(b"a", 0)?;
-    bench.set(b"c", 12, b"3", 10)?;
-    bench.set(b"c", 4, b"3", 0)?;
-    // The removed place was the lowest free one.
-    expect("the first place's name", b"c"[..].into(), &bench.card[4..5])?;
-    bench.remove(b"b", 0)?;
-    expect("chip", &vec![0; ENTRY], &bench.chip)?;
-    bench.set(b"d", 12, b"5", 0)?;
-    bench.get(b"d", 0, 1, b"5")
-}
-
-fn old_card(library: &dyn Library) -> Step {
-    let mut bench = Bench::new(library, 1, 1);
-    bench.set(b"a", 14, b"old", 0)?;
-    let (old_card, old_chip) = (bench.card.clone(), bench.chip.clone());
-    bench.set_with(b"other-iv", b"a", 14, b"new", 0)?;
-    bench.get(b"a", 0, 4, b"new")?;
-    bench.card = old_card;
-    bench.get_refused(b"a", 0, 12)?;
-    bench.chip = old_chip;
-    bench.get(b"a", 0, 4, b"old")?;
-    bench.chip.fill(0);
-    bench.get_refused(b"a", 0, 12)
-}
-
-fn cmac_over_what_is_stored(library: &dyn Library) -> Step {
-    let mut bench = Bench::new(library, 1, 1);
-    bench.set(b"a", 6, b"some data", 0)?;
-    let place = &bench.card[68..];
-    let key = kdf::derive(&KEY, b"AUTH", b"a");
-    let tag = cmac::cmac(&key, &[b"a", &place[..29]].concat());
-    expect("CMAC", &tag[..], &place[29..45])?;
-    // Every byte of the record counts, however short the output is.
-    for at in 68 + 20..68 + 45 {
-        bench.card[at] ^= 0x80;
-        let call = Call::Get {
-            key: KEY.to_vec(),
-            name: b"a".to_vec(),
-            offset: 0,
-            output: Vec::new(),
-        };
-        bench.run(call, 11)?;
-        bench.card[at] ^= 0x80;
-    }
-    bench.get(b"a", 0, 9, b"some data")
-}
-
-fn walk(library: &dyn Library) -> Step {
-    let mut bench = Bench::new(library, 4, 1);
-    for name in [&b"b1"[..], b"a1", b"b22"] {
-        bench.set(name, 0, b"", 0)?;
-    }
-    bench.remove(b"a1", 0)?;
-    let walk = |prefix: &[u8], start| Call::Walk {
-        prefix: prefix.to_vec(),
-        start,
-        name_buffer: vec![0xee; 64],
-    };
-    let (returned, output) = bench.run(walk(b"b", 1), 0)?;
-    expect("length and next place", &[3, 3], &returned)?;
-    expect("name buffer", &b"b22\xee"[..], &output[..4])?;
-    bench.run(walk(b"b", 3), 6)?;
-    bench.run(walk(b"", usize::MAX), 6)?;
-    bench.run(walk(b" ", 0), 3)?;
-    bench.run(walk(&[b'b'; 65], 0), 3)?;
-    let (returned, _) = bench.run(walk(b"", 0), 0)?;
-    expect("length and next place", &[2, 1], &returned)
-}
-
-fn key_files(library: &dyn Library) -> Step {
-    let mut bench = Bench::new(library, 1, 1);
-    let attributes = Attributes {
-        lifetime: 1,
-        kind: 2,
-        usage: 3,
-        algorithm: 4,
-        enrollment: 5,
-    };
-    let keep = |identifier, material: &[u8]| Call::KeepKey {
-        key: KEY.to_vec(),
-        identifier,
-        attributes,
-        material: material.to_vec(),
-        flags: 14,
-        iv: IV.to_vec(),
-    };
-    let load = |identifier, room| Call::LoadKey {
-        key: KEY.to_vec(),
-        identifier,
-        key_buffer: vec![0xee; room],
-    };
-    bench.run(keep(0, b"k"), 3)?;
-    bench.run(keep(0xffff_0000, b"k"), 3)?;
-    // The material is judged before all else.
-    bench.run(keep(0, &[0; 445]), 13)?;
-    bench.run(keep(42, b"key"), 0)?;
-    expect("name", b"000000000000002a"[..].into(), &bench.card[4..20])?;
-    let file = b"PSA\0KEY\0\0\0\0\0\x01\0\0\0\x02\0\0\0\x03\0\0\0\x04\0\0\0\x05\0\0\0\x03\0\0\0key";
-    let (returned, output) = bench.run(load(42, 481), 0)?;
-    expect("count", &[39, 0], &returned)?;
-    expect("file", &file[..], &output[..39])?;
-    expect("rest", &vec![0xee; 442][..], &output[39..])?;
-    bench.run(load(42, 479), 1)?;
-    bench.run(load(43, 480), 6)?;
-    let write = |material: &[u8], room| Call::WriteKeyFile {
-        attributes,
-        material: material.to_vec(),
-        key_buffer: vec![0xee; room],
-    };
-    let (returned, output) = bench.run(write(b"key", 480), 0)?;
-    expect("count", &[39, 0], &returned)?;
-    expect("file", &file[..], &output[..39])?;
-    bench.run(write(&[0; 445], 479), 1)?;
-    bench.run(write(&[0; 445], 480), 13)?;
-    let (returned, _) = bench.run(write(&[0; 444], 480), 0)?;
-    expect("count", &[480, 0], &returned)?;
-    // A record under the key's name that is no key file.
-    bench.set(b"000000000000002a", 14, &file[..38], 0)?;
-    bench.run(load(42, 480), 13).map(drop)
-}
-
-type Edge = fn(&dyn Library) -> Step;
-
-pub fn checks(library: &dyn Library) -> Vec<(String, Checked)> {
-    let edges: [(&str, Edge); 11] = [
-        ("edge-names", names),
-        ("edge-data-sizes", data_sizes),
-        ("edge-flags", flags),
-        ("edge-whole-place", whole_place),
-        ("edge-offsets", offsets),
-        ("edge-write-once", write_once),
-        ("edge-room", room),
-        ("edge-old-card", old_card),
-        ("edge-cmac", cmac_over_what_is_stored),
-        ("edge-walk", walk),
-        ("edge-key-files", key_files),
-    ];
-    edges
-        .into_iter()
-        .map(|(name, edge)| (name.into(), edge(library).map(|()| String::new())))
-        .collect()
+    checks
 }
 
 #[cfg(test)]
 mod tests {
     use super::*;
-    use crate::library::Reference;
+    use crate::calls::Call;
+    use crate::library::{Faulty, Observed};
 
     #[test]
     fn the_reference_passes() {
-        for (name, checked) in checks(&Reference) {
+        for (name, checked) in checks(&Reference, Path::new(FOLDER)) {
             assert!(checked.is_ok(), "{name}: {checked:?}");
+        }
+    }
+
+    #[test]
+    fn every_expected_value_counts() {
+        // Each field that is expected, made another one by one: the line is told.
+        let path = files(Path::new(FOLDER)).expect("files").remove(0);
+        let text = fs::read_to_string(path).expect("readable");
+        let lines: Vec<&str> = text.lines().collect();
+        for (at, line) in lines.iter().enumerate() {
+            let (front, expected) = match line.split_once("\t=\t") {
+                Some(parts) => parts,
+                None => continue,
+            };
+            let fields: Vec<&str> = expected
+                .split('\t')
+                .filter(|field| !field.starts_with('#'))
+                .collect();
+            for changed in 0..fields.len() {
+                let mut fields = fields.clone();
+                fields[changed] = "99";
+                let mut lines = lines.clone();
+                let line = format!("{front}\t=\t{}", fields.join("\t"));
+                lines[at] = &line;
+                let why = run(&Reference, "f.tsv", lines.join("\n").as_bytes()).unwrap_err();
+                assert!(
+                    why.starts_with("1 of ") && why.contains(&format!("f.tsv:{}: ", at + 1)),
+                    "{why}"
+                );
+            }
+        }
+    }
+
+    fn told(text: &str) -> Checked {
+        run(&Reference, "f.tsv", text.as_bytes())
+    }
+
+    #[test]
+    fn what_differs_is_told_with_its_group() {
+        let why = told(
+            "# one\nslots\t1\t1\nset\t\"a\"\t0\t-\t=\t0\nremove\t\"b\"\t=\t7\n# two\nreset\t=\t0",
+        )
+        .unwrap_err();
+        assert_eq!(
+            why,
+            "1 of 3 lines differ\n  f.tsv:4: remove\t\"b\"\t=\t7\n    answered\t6\n  one: 1 of 2"
+        );
+    }
+
+    #[test]
+    fn a_file_without_lines_fails() {
+        assert!(told("").is_err());
+        assert!(told("# a group\n").is_err());
+        assert!(told("# a group\nslots\t1\t1\n").is_err());
+        assert!(told("# a group\n# another\nreset\t=\t1").is_err());
+        assert!(told("reset\t=\t1\n# a group\nreset\t=\t1").is_err());
+        assert_eq!(
+            told("# a group\nreset\t=\t1"),
+            Ok("1 lines in 1 groups".into())
+        );
+        assert!(checks(&Reference, Path::new("/nowhere"))[0].1.is_err());
+        let sources = concat!(env!("CARGO_MANIFEST_DIR"), "/src");
+        assert!(checks(&Reference, Path::new(sources))[0].1.is_err());
+    }
+
+    /// Lines of each word with something wrong in them.
+    const WRONG: [&str; 36] = [
+        "slots\t66\t1",
+        "slots\t1",
+        "slots\t1\t1\t1",
+        "card\t0",
+        "card\t00*37961",
+        "chip\t00*5331",
+        "key\t00*65",
+        "iv\t-\t=",
+        "attributes\t00*19",
+        "attributes\t00*21",
+        "poke\tcard\t584\t00",
+        "poke\tcard\t18446744073709551615\t00",
+        "poke\tcars\t0\t00",
+        "flip\tchip\t81\t0000",
+        "keep\t4",
+        "put\tcard\t0",
+        "say",
+        "sleep",
+        "\t",
+        "set\t\"a\"\t0\t=\t0",
+        "set\t\"a\"\t4294967296\t-\t=\t0",
+        "set\t\"a\"\t0\t-\t0",
+        "set\t\"a\"\t0\t-",
+        "reset\t=",
+        "reset\t=\t0\t0",
+        "get\t\"a\"\t18446744073709551616\t-\t=\t6\t0\t-",
+        "at\tcard\t583\t=\t0000",
+        "at\tcard\t0\t=",
+        "same\t0\t=",
+        "fill\t95\t0\t-\t=\t95",
+        "bits\tcard\t583\t2\tget\t\"a\"\t=\t2",
+        "bits\tcard\t0\t0\tget\t\"a\"\t=\t2",
+        "bits\tcard\t583\t1\tnext\t\"a\"\t=\t2",
+        "each\tcard\t584\t1\t2\tget\t\"a\"\t=\t2",
+        "each\tcard\t0\t2\t1\tget\t\"a\"\t=\t2",
+        "each\tcard\t0\t0\t256\tget\t\"a\"\t=\t2",
+    ];
+
+    #[test]
+    fn a_line_that_cannot_be_carried_out_differs() {
+        for line in WRONG {
+            let checked = told(&format!(
+                "# a group\nslots\t1\t1\n{line}\nget\t\"a\"\t0\t-\t=\t6\t0\t-"
+            ));
+            let why = checked.expect_err(line);
+            assert!(why.starts_with("1 of 2 lines differ\n  f.tsv:3: "), "{why}");
+        }
+    }
+
+    #[test]
+    fn a_refusal_that_writes_is_told() {
+        let lines = [
+            "# a group",
+            "slots\t1\t1",
+            "remove\t\"a\"\t=\t6",
+            "get\t\"a\"\t0\tee\t=\t6\t0\tee",
+            "fill\t1\t16\t-\t=\t0",
+            "bits\tcard\t0\t1\tset\t20\t=\t2",
+        ];
+        let faults: [fn(&Call, &mut Observed); 3] = [
+            |_, observed| observed.answer.card[583] ^= 1,
+            |_, observed| observed.answer.chip[0] ^= 1,
+            |_, observed| observed.strays.push("name was written".into()),
+        ];
+        for fault in faults {
+            let why = run(&Faulty(fault), "f.tsv", lines.join("\n").as_bytes()).unwrap_err();
+            assert!(why.starts_with("4 of 4 lines differ"), "{why}");
         }
     }
 }

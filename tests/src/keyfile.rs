@@ -8,7 +8,7 @@ const MAGIC: &[u8; 8] = b"PSA\0KEY\0";
 const VERSION: u32 = 0;
 
 /// Type and policy numbers: carried and not judged.
-#[derive(Clone, Copy, Debug, PartialEq, Eq)]
+#[derive(Clone, Copy, Debug, Default, PartialEq, Eq)]
 pub struct Attributes {
     pub lifetime: u32,
     pub kind: u32,

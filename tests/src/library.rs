@@ -1,4 +1,4 @@
-//! What is tried: the product's library, or in the self-tests another store.
+//! What is tried: the product's library, or the reference in its place.
 
 use crate::aes::Block;
 use crate::answer::Answer;
@@ -27,10 +27,8 @@ pub trait Library: Sync {
 }
 
 /// The reference in the library's place.
-#[cfg(test)]
 pub struct Reference;
 
-#[cfg(test)]
 impl Library for Reference {
     fn call(&self, card: &[u8], chip: &[u8], call: &Call) -> Observed {
         Observed {
@@ -57,5 +55,38 @@ impl Library for Reference {
 
     fn parse_key_file(&self, file: &[u8]) -> Seen<(u32, [u32; 6])> {
         Ok(crate::parsing::expected(file))
+    }
+}
+
+/// The reference with a fault in its calls, for tests of what finds one.
+#[cfg(test)]
+pub struct Faulty(pub fn(&Call, &mut Observed));
+
+#[cfg(test)]
+impl Library for Faulty {
+    fn call(&self, card: &[u8], chip: &[u8], call: &Call) -> Observed {
+        let mut observed = Reference.call(card, chip, call);
+        (self.0)(call, &mut observed);
+        observed
+    }
+
+    fn aes(&self, key: &Block, block: &Block) -> Seen<Block> {
+        Reference.aes(key, block)
+    }
+
+    fn cmac(&self, key: &Block, message: &[u8]) -> Seen<Block> {
+        Reference.cmac(key, message)
+    }
+
+    fn ctr(&self, key: &Block, iv: &Iv, data: &[u8]) -> Seen<Vec<u8>> {
+        Reference.ctr(key, iv, data)
+    }
+
+    fn derive(&self, key: &Block, prefix: &[u8], name: &[u8]) -> Seen<Block> {
+        Reference.derive(key, prefix, name)
+    }
+
+    fn parse_key_file(&self, file: &[u8]) -> Seen<(u32, [u32; 6])> {
+        Reference.parse_key_file(file)
     }
 }

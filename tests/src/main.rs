@@ -7,34 +7,42 @@ mod openssl;
 use std::process::ExitCode;
 
 use driver::Options;
+use reference::edges;
 
-const USAGE: &str = "usage: compare [--seed N] [--stories N] [--lists N]";
+const USAGE: &str = include_str!("../usage.txt");
 
-fn options() -> Result<Options, String> {
+/// `None` asks for help.
+fn options(mut arguments: impl Iterator<Item = String>) -> Result<Option<Options>, String> {
     let mut options = Options {
         seed: 1,
         stories: 40_000,
         lists: 20_000,
+        edges: edges::FOLDER.into(),
     };
-    let mut arguments = std::env::args().skip(1);
     while let Some(name) = arguments.next() {
-        let number = arguments.next().and_then(|text| text.parse().ok());
-        let number = number.ok_or_else(|| format!("{name} wants a number"))?;
+        let mut value = || arguments.next().ok_or(format!("{name} wants a value"));
+        let number = |text: String| text.parse().map_err(|_| format!("{name} wants a number"));
         match name.as_str() {
-            "--seed" => options.seed = number,
-            "--stories" => options.stories = number,
-            "--lists" => options.lists = number,
+            "--help" => return Ok(None),
+            "--seed" => options.seed = number(value()?)?,
+            "--stories" => options.stories = number(value()?)?,
+            "--lists" => options.lists = number(value()?)?,
+            "--edges" => options.edges = value()?.into(),
             _ => return Err(format!("{name} is unknown")),
         }
     }
-    Ok(options)
+    Ok(Some(options))
 }
 
 fn main() -> ExitCode {
-    let options = match options() {
-        Ok(options) => options,
+    let options = match options(std::env::args().skip(1)) {
+        Ok(Some(options)) => options,
+        Ok(None) => {
+            print!("{USAGE}");
+            return ExitCode::SUCCESS;
+        }
         Err(why) => {
-            eprintln!("{why}\n{USAGE}");
+            eprint!("{why}\n{USAGE}");
             return ExitCode::from(2);
         }
     };
