@@ -124,32 +124,35 @@ mod tests {
         }
     }
 
+    /// The line with each of the fields that it expects made another.
+    fn altered(line: &str) -> Vec<String> {
+        let (front, expected) = match line.split_once("\t=\t") {
+            Some(parts) => parts,
+            None => return Vec::new(),
+        };
+        let fields = expected.split('\t').filter(|field| !field.starts_with('#'));
+        let fields: Vec<&str> = fields.collect();
+        let alter = |at: usize| {
+            let mut fields = fields.clone();
+            fields[at] = "99";
+            format!("{front}\t=\t{}", fields.join("\t"))
+        };
+        (0..fields.len()).map(alter).collect()
+    }
+
     #[test]
     fn every_expected_value_counts() {
-        // Each field that is expected, made another one by one: the line is told.
-        let path = files(Path::new(FOLDER)).expect("files").remove(0);
-        let text = fs::read_to_string(path).expect("readable");
-        let lines: Vec<&str> = text.lines().collect();
-        for (at, line) in lines.iter().enumerate() {
-            let (front, expected) = match line.split_once("\t=\t") {
-                Some(parts) => parts,
-                None => continue,
-            };
-            let fields: Vec<&str> = expected
-                .split('\t')
-                .filter(|field| !field.starts_with('#'))
-                .collect();
-            for changed in 0..fields.len() {
-                let mut fields = fields.clone();
-                fields[changed] = "99";
-                let mut lines = lines.clone();
-                let line = format!("{front}\t=\t{}", fields.join("\t"));
-                lines[at] = &line;
-                let why = run(&Reference, "f.tsv", lines.join("\n").as_bytes()).unwrap_err();
-                assert!(
-                    why.starts_with("1 of ") && why.contains(&format!("f.tsv:{}: ", at + 1)),
-                    "{why}"
-                );
+        for path in files(Path::new(FOLDER)).expect("files") {
+            let text = fs::read_to_string(path).expect("readable");
+            let lines: Vec<&str> = text.lines().collect();
+            for (at, line) in lines.iter().enumerate() {
+                for other in altered(line) {
+                    let mut lines = lines.clone();
+                    lines[at] = &other;
+                    let why = told(&lines.join("\n")).expect_err(&other);
+                    assert!(why.starts_with("1 of "), "{why}");
+                    assert!(why.contains(&format!("f.tsv:{}: {other}", at + 1)), "{why}");
+                }
             }
         }
     }
