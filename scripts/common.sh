@@ -70,7 +70,7 @@ stop() {
         kill -s TERM -- "-$!" 2>/dev/null || kill -s TERM "$!" 2>/dev/null
         wait "$!" 2>/dev/null
         tries=0
-        while kill -s 0 -- "-$!" 2>/dev/null && [ "$tries" -lt 100 ]; do
+        while alive "$!" && [ "$tries" -lt 100 ]; do
             sleep 0.1
             tries=$((tries + 1))
         done
@@ -78,6 +78,11 @@ stop() {
     fi
     say "interrupted" 2>/dev/null
     exit "$1"
+}
+
+# Whether a process group has a process that has not ended. Ended ones may stay listed (state Z) until somebody asks for their status.
+alive() {
+    cat /proc/[0-9]*/stat 2>/dev/null | awk -v group="$1" '{ sub(/.*\) /, "") } $3 == group && $1 != "Z" { found = 1 } END { exit !found }'
 }
 
 # Runs a command in a process group of its own, by which `stop` reaches all that it starts. A signal ends the wait at once.
@@ -99,7 +104,7 @@ prove() {
     # shellcheck disable=SC2016 # the inner shell's words
     setsid sh -c 'out=$1; shift; rt check "$@" >"$out" 2>&1; echo "$?" >"$out.status"' prove "$place/rt" "$@" &
     while [ ! -s "$place/rt.status" ] && kill -s 0 "$!" 2>/dev/null; do
-        sleep 1
+        sleep 0.5
         tell
     done
     wait "$!"
@@ -128,7 +133,7 @@ tell() {
         esac
         if [ -n "$verdict" ]; then over="$over$name "; else going="$going $name"; fi
     done
-    [ "$quiet" -lt 20 ] || [ -z "$going" ] || report "still proving$going"
+    [ "$quiet" -lt 40 ] || [ -z "$going" ] || report "still proving$going"
 }
 
 # scripts/crates.tsv has for each crate how long its proof takes and what it is.
