@@ -76,7 +76,7 @@ stop() {
         done
         kill -s KILL -- "-$!" 2>/dev/null
     fi
-    say "interrupted" 2>/dev/null
+    say "interrupted"
     exit "$1"
 }
 
