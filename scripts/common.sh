@@ -100,6 +100,7 @@ prove() {
     mkdir -p target/log
     rm -f target/log/*.out "$place/rt.status"
     begun=' ' over=' ' unchanged=0 quiet=0
+    since=$(date +%s)
     running=yes
     # shellcheck disable=SC2016 # the inner shell's words
     setsid sh -c 'out=$1; shift; rt check "$@" >"$out" 2>&1; echo "$?" >"$out.status"' prove "$place/rt" "$@" &
@@ -114,8 +115,9 @@ prove() {
     return "$(cat "$place/rt.status" 2>/dev/null || echo 2)"
 }
 
-# Says which crates are being proved and which are. rt writes target/log/NAME.out from a crate's start, and its verdict there at the end.
+# Says which crates are proved and which are being proved. rt writes target/log/NAME.out from a crate's start, and its verdict there at the end.
 tell() {
+    fresh=
     going=
     quiet=$((quiet + 1))
     for out in target/log/*.out; do
@@ -123,17 +125,20 @@ tell() {
         name=${out##*/}
         name=${name%.out}
         case $over in *" $name "*) continue ;; esac
+        case $begun in *" $name "*) new= ;; *) new=$name ;; esac
         verdict=$(grep -E "^rt: $name (proved|NOT PROVED)" "$out" | tail -n 1)
         case $verdict in
+        '') fresh="$fresh $new" going="$going $name" ;;
         *unchanged*) unchanged=$((unchanged + 1)) ;;
         *)
-            case $begun in *" $name "*) ;; *) announce "$name" ;; esac
-            [ -z "$verdict" ] || report "${verdict#rt: }"
+            [ -z "$new" ] || announce "$new"
+            report "${verdict#rt: }"
             ;;
         esac
-        if [ -n "$verdict" ]; then over="$over$name "; else going="$going $name"; fi
+        [ -z "$verdict" ] || over="$over$name "
     done
-    [ "$quiet" -lt 40 ] || [ -z "$going" ] || report "still proving$going"
+    for name in $fresh; do announce "$name"; done
+    [ "$quiet" -lt 60 ] || [ -z "$going" ] || report "still proving$going, $(($(date +%s) - since)) s so far"
 }
 
 # scripts/crates.tsv has for each crate how long its proof takes and what it is.
