@@ -111,7 +111,7 @@ prove() {
     wait "$!"
     running=
     tell
-    [ "$unchanged" = 0 ] || say "$unchanged crates are unchanged since they were proved"
+    [ "$unchanged" = 0 ] || say "crates unchanged since they were proved: $unchanged"
     return "$(cat "$place/rt.status" 2>/dev/null || echo 2)"
 }
 
