@@ -98,7 +98,15 @@ module _ (separator : ℕ) where
   only-free = free-behind [] none-free
 
   pub part-laws : PartLaws separator
-  part-laws = record { joined = joined; free = cut-free ([] ∷ []) only-free; number = number; there = there; start = start; past = past }
+  part-laws = record {
+    joined = joined;
+    free = cut-free ([] ∷ []) only-free;
+    number = number;
+    there = there;
+    start = start;
+    past = past;
+    place = λ s k. refl;
+  }
 
 -- ---- lines
 

@@ -7,7 +7,8 @@ use mathlib.Core.List.{List, [], _∷_, _++_}
 use Prim.Native.Nat.{ℕ, suc, _+_, _-_, _*_, _/_, _%_, _^_, _≤_, _<_}
 use lib.Dec.{eqb}
 use lib.ListN.{length, getD, take, drop}
-use Rattle.text.specs.Parts.{parts, tab, newline, lines, partStart}
+use denote.Ref.{RefT, now}
+use Rattle.text.specs.Parts.{parts, tab, newline, lines, partStart, partPlace}
 use Rattle.text.specs.Written.{answer, left}
 use Rattle.text.specs.Hex.{hexValue, isHex, hexBytes, hexText}
 use Rattle.text.specs.Decimal.{isDecimal, decimalValue, read, decimalText}
@@ -35,6 +36,8 @@ pub record PartLaws (separator : ℕ) : Type 0 where
   pub there : (s : List ℕ) (k : ℕ) → let p = getD (parts separator s) k [] in take (length p) (drop (partStart separator s k) s) ≡ p
   pub start : (s : List ℕ) (k : ℕ) → k < length (parts separator s) → partStart separator s k ≡ length (ended separator (take k (parts separator s)))
   pub past : (s : List ℕ) (k : ℕ) → length (parts separator s) ≤ k → partStart separator s k ≡ length s
+  -- it is lent from the text itself, from that byte on
+  pub place : (s : RefT (List ℕ)) (k : ℕ) → partPlace s separator k ≡ (s .ptr .0, s .ptr .1 + partStart separator (now s) k)
 
 -- a text is empty, or ends with a newline, or with another byte: there a newline more changes nothing
 pub record LineLaws : Type 0 where

@@ -1,6 +1,6 @@
 -- Parts of a text, which is a list of bytes.
 --   parts        those between separators: fields, at tabs
---   lines        those that a newline ends, and what stands after the last newline
+--   lines        those that a newline ends, and what stands after the last newline, if anything does
 --   partStart    where a part starts in the text
 use mathlib.Core.Bool.{cond}
 use mathlib.Core.List.{List, [], _∷_}
