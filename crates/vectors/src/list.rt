@@ -83,6 +83,9 @@ fn has_tag_sizes(line: &[u8], input: usize, output: usize) -> bool {
 fn has_sizes(trial: u8, line: &[u8], key: usize, input: usize, output: usize) -> bool {
     match trial {
         WORDS => output == 4,
+        COUNTER_BLOCKS | MESSAGE | LINES => {
+            key == 16 && input == output && read_bytes(field(line, 2)).size == 16
+        }
         TAG | FEEDS => key == 16 && has_tag_sizes(line, input, output),
         DERIVED | PARTS => key == 16 && is_bits(field(line, 1), output),
         _ => key == 16 && input == output,
