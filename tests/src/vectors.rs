@@ -95,7 +95,7 @@ mod tests {
             expected += &format!("{} {}: {n} of {n}\n", trial.file, trial.what);
             all += n;
         }
-        expected += &format!("vectors: all {all} trials as published\n");
+        expected += &format!("vectors: all {all} trials as expected\n");
         assert_eq!(expected, read("stdout"));
     }
 

@@ -1,5 +1,5 @@
 // Runs the published vectors of data/ through the crate cipher, as data/trials.tsv lists them. Writes for each entry of the list how many
-// trials gave what is published, of how many, and before that each line that differs; the last line is the verdict.
+// trials gave what is expected, of how many, and before that each line that differs; the last line is the verdict.
 mod counter;
 mod fields;
 mod list;
@@ -147,7 +147,7 @@ fn print_verdict(tally: Tally) {
     if tally.passed == tally.tried {
         print(b"all ");
         print_decimal(STDOUT_FILENO, tally.tried);
-        print(b" trials as published\n");
+        print(b" trials as expected\n");
         return;
     }
     print_decimal(

@@ -1,4 +1,4 @@
-// How many trials gave what is published, of how many.
+// How many trials gave what is expected, of how many.
 use std::num::wrapping_add_u64;
 
 // Sums wrap so that no bound has to be carried: no run comes near 2^64 trials.

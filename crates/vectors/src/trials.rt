@@ -1,4 +1,4 @@
-// What the crate cipher makes of a line, compared with what is published.
+// What the crate cipher makes of a line, compared with what is expected.
 use crate::counter::xored;
 use crate::fields::LONGEST;
 use crate::fields::block;
@@ -133,7 +133,7 @@ fn line_passes(trial: u8, entry: &[u8], fields: &[u8], at: usize) -> bool {
     states(named(entry, OUTPUT, fields), place, found)
 }
 
-// Whether one trial on a readable line gives what is published.
+// Whether one trial on a readable line gives what is expected.
 pub fn passes(
     trial: u8,
     entry: &[u8],
