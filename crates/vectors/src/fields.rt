@@ -47,6 +47,10 @@ pub fn number(f: &[u8]) -> usize {
     parse_decimal(f, 999999).value as usize
 }
 
+pub fn is_decimal(f: &[u8]) -> bool {
+    parse_decimal(f, 999999).ok
+}
+
 pub fn is_number(f: &[u8], n: usize) -> bool {
     let read = parse_decimal(f, 999999);
     read.ok && read.value == n as u64

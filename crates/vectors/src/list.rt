@@ -1,6 +1,7 @@
 // The list of trials. An entry has a file, what is tried on its lines, the first line's number or "-", how many fields a line has, and
 // which of them hold key, input and output.
 use crate::fields::is_bits;
+use crate::fields::is_decimal;
 use crate::fields::is_number;
 use crate::fields::named;
 use crate::fields::number;
@@ -39,6 +40,17 @@ pub const FEEDS: u8 = b'f';
 pub const DERIVED: u8 = b'd';
 
 pub const PARTS: u8 = b'p';
+
+// Whether an entry has its seven fields, and a number in each that stands for one.
+pub fn is_entry(entry: &[u8]) -> bool {
+    let first = field(entry, 2);
+    field_count(entry) == 7
+        && (same(first, b"-") || is_decimal(first))
+        && is_decimal(field(entry, 3))
+        && is_decimal(field(entry, KEY))
+        && is_decimal(field(entry, INPUT))
+        && is_decimal(field(entry, OUTPUT))
+}
 
 pub fn trial_of(entry: &[u8]) -> u8 {
     let word = field(entry, 1);

@@ -119,10 +119,18 @@ fn load(path: &[u8], buf: &mut [u8]) -> usize
     n
 }
 
-fn run_entry(entry: &[u8]) -> Tally {
+// An entry that cannot be read is one trial that differs, as a file is.
+fn run_file(entry: &[u8]) -> Tally {
+    if !list::is_entry(entry) {
+        return Tally::failed();
+    }
     let mut buf = io::large_buffer();
     let n = load(field(entry, 0), &mut buf);
-    let tally = run_lines(entry, &buf[..n]);
+    run_lines(entry, &buf[..n])
+}
+
+fn run_entry(entry: &[u8]) -> Tally {
+    let tally = run_file(entry);
     print_entry(entry);
     print_decimal(STDOUT_FILENO, tally.passed);
     print(b" of ");
