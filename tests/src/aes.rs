@@ -121,7 +121,7 @@ mod tests {
     fn key_expansion_of_fips_197_appendix_a() {
         let words: Vec<[u8; 4]> = rows("aes128-key-expansion.tsv")
             .iter()
-            .map(|row| row.bytes(1).try_into().unwrap())
+            .map(|row| row.bytes(1).unwrap().try_into().unwrap())
             .collect();
         let key: Block = words[..4].concat().try_into().unwrap();
         assert_eq!(Aes128::new(&key).round_keys().concat(), words.concat());

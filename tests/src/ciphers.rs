@@ -3,7 +3,7 @@
 use crate::aes::{Aes128, Block, BLOCK};
 use crate::library::{Library, Seen};
 use crate::rng::Rng;
-use crate::vectors::{block, rows, trials, Row, Trial};
+use crate::vectors::{at_line, block, rows, trials, Row, Trial};
 use crate::{cmac, ctr, kdf, show};
 
 /// How many inputs were tried, or what differed.
@@ -47,32 +47,32 @@ fn counted(library: &dyn Library, key: &Block, first: Block, input: &[u8]) -> Se
 /// states. K1 is added to a message of one block, so that the tag of K1 itself is the
 /// encryption of the zero block; K2 is added to the empty message's padding.
 fn expected_and_made(library: &dyn Library, trial: &Trial, row: &Row) -> Seen<(Vec<u8>, Vec<u8>)> {
-    let key = block(&row.bytes(trial.key));
-    let input = row.bytes(trial.input);
-    let mut expected = row.bytes(trial.output);
+    let key = block(&row.bytes(trial.key)?)?;
+    let input = row.bytes(trial.input)?;
+    let mut expected = row.bytes(trial.output)?;
     let mut made = Vec::new();
     match trial.what.as_str() {
         "blocks" => {
             for text in input.chunks(BLOCK) {
-                made.extend(library.aes(&key, &block(text))?);
+                made.extend(library.aes(&key, &block(text)?)?);
             }
         }
-        "counter blocks" => made = counted(library, &key, block(&row.bytes(2)), &input)?,
+        "counter blocks" => made = counted(library, &key, block(&row.bytes(2)?)?, &input)?,
         "zero block" => made.extend(library.aes(&key, &[0; BLOCK])?),
         "tag" | "k1 as a message" => {
             made.extend(library.cmac(&key, &input)?);
             if row.fields() == 7 {
-                made.truncate(row.number(4));
+                made.truncate(row.number(4)?);
             }
         }
         "empty message by k2" => {
-            let mut padded = block(&input);
+            let mut padded = block(&input)?;
             padded[0] ^= 0x80;
             expected = library.aes(&key, &padded)?.to_vec();
             made.extend(library.cmac(&key, &[])?);
         }
         "derived blocks" => {
-            let size = row.number(1) / 8;
+            let size = row.number(1)? / 8;
             for i in (1..).take((size + BLOCK - 1) / BLOCK) {
                 made.extend(library.cmac(&key, &[vec![i], input.clone()].concat())?);
             }
@@ -83,14 +83,36 @@ fn expected_and_made(library: &dyn Library, trial: &Trial, row: &Row) -> Seen<(V
     Ok((expected, made))
 }
 
-fn published(library: &dyn Library, trial: &Trial) -> Checked {
+/// How many blocks a row gave, all as published.
+fn blocks(library: &dyn Library, trial: &Trial, row: &Row) -> Result<usize, String> {
+    let (expected, made) = expected_and_made(library, trial, row)?;
+    same(|| trial.what.clone(), &expected, &made)?;
+    Ok(made.chunks(BLOCK).count())
+}
+
+fn published(library: &dyn Library, trial: &Trial, rows: &[Row]) -> Checked {
     let mut count = 0;
-    for (index, row) in rows(&trial.file).iter().enumerate() {
-        let (expected, made) = expected_and_made(library, trial, row)?;
-        same(|| format!("line {}", index + 2), &expected, &made)?;
-        count += made.chunks(BLOCK).count();
+    for (index, row) in rows.iter().enumerate() {
+        count += blocks(library, trial, row).map_err(|why| at_line(index, &why))?;
     }
     Ok(format!("{count} blocks"))
+}
+
+/// A check for each entry of the list that the library exports calls for.
+fn listed(library: &dyn Library) -> Vec<(String, Checked)> {
+    let list = match trials() {
+        Ok(list) => list,
+        Err(why) => return vec![("trials".into(), Err(why))],
+    };
+    list.iter()
+        .filter(|trial| !NOT_EXPORTED.contains(&trial.what.as_str()))
+        .map(|trial| {
+            let name = trial.file.trim_end_matches(".tsv");
+            let what = trial.what.replace(' ', "-");
+            let checked = published(library, trial, &rows(&trial.file));
+            (format!("{name}-{what}"), checked)
+        })
+        .collect()
 }
 
 pub fn random_aes(library: &dyn Library, mut rng: Rng) -> Checked {
@@ -163,15 +185,7 @@ pub fn random_derive(library: &dyn Library, mut rng: Rng) -> Checked {
 
 /// All checks of the ciphers that need nothing but the library.
 pub fn checks(library: &dyn Library, seed: u64) -> Vec<(String, Checked)> {
-    let mut checks: Vec<(String, Checked)> = trials()
-        .iter()
-        .filter(|trial| !NOT_EXPORTED.contains(&trial.what.as_str()))
-        .map(|trial| {
-            let name = trial.file.trim_end_matches(".tsv");
-            let what = trial.what.replace(' ', "-");
-            (format!("{name}-{what}"), published(library, trial))
-        })
-        .collect();
+    let mut checks = listed(library);
     checks.push((
         "random-aes".into(),
         random_aes(library, Rng::part(seed, 1 << 40)),
@@ -200,6 +214,31 @@ mod tests {
     fn the_reference_passes() {
         for (name, checked) in checks(&Reference, 1) {
             assert!(checked.is_ok(), "{name}: {checked:?}");
+        }
+    }
+
+    // The vector is the first of RFC 3686.
+    #[test]
+    fn a_row_that_cannot_be_read_fails_by_its_line() {
+        let trial = Trial {
+            file: String::new(),
+            what: "counter blocks".into(),
+            key: 1,
+            input: 3,
+            output: 4,
+        };
+        let good = "0\tae6852f8121067cc4bf7a5765577f39e\t00000030000000000000000000000001\t\
+            53696e676c6520626c6f636b206d7367\te4095d4fb7a7b3792d6175a3261311b8\tpublished";
+        let tried = |line: &str| published(&Reference, &trial, &[Row::new(good), Row::new(line)]);
+        assert_eq!(tried(good), Ok("2 blocks".into()));
+        for (from, to, why) in [
+            ("0001\t", "0001ff\t", "line 3: 17 bytes, not 16"),
+            ("\tae", "\t", "line 3: 15 bytes, not 16"),
+            ("\t53", "\tx3", "line 3: field 3 is not hex: x3"),
+            ("11b8\tpublished", "11b9", "line 3: counter blocks: "),
+        ] {
+            let told = tried(&good.replace(from, to)).unwrap_err();
+            assert!(told.starts_with(why), "{told}");
         }
     }
 }

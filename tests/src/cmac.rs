@@ -49,11 +49,11 @@ mod tests {
     #[test]
     fn published_subkeys() {
         for row in rows("cmac-aes128-subkeys.tsv") {
-            let cipher = Aes128::new(&block(&row.bytes(0)));
-            assert_eq!(cipher.encrypt(&[0; BLOCK]).to_vec(), row.bytes(1));
+            let cipher = Aes128::new(&block(&row.bytes(0).unwrap()).unwrap());
+            assert_eq!(Ok(cipher.encrypt(&[0; BLOCK]).to_vec()), row.bytes(1));
             let (k1, k2) = subkeys(&cipher);
-            assert_eq!(k1.to_vec(), row.bytes(2));
-            assert_eq!(k2.to_vec(), row.bytes(3));
+            assert_eq!(Ok(k1.to_vec()), row.bytes(2));
+            assert_eq!(Ok(k2.to_vec()), row.bytes(3));
         }
     }
 }
