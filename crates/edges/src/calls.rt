@@ -1,51 +1,177 @@
-// The store's calls with one device key and IV, where a case is not about these.
+// The calls, on the card, chip, key and IV that last, with a line's arguments. What a call may write is lent as a copy, and put back.
+use crate::answer::Answer;
+use crate::areas::front_mut;
+use crate::areas::put;
+use crate::areas::span;
+use crate::args::Args;
+use crate::memory;
+use crate::memory::CHIP;
+use crate::memory::reg;
+use crate::state::Env;
+use crate::words::Word;
+use buffers::numbers::le_at;
+use keys::key_file::KeyAttributes;
 use store::answers::Got;
-use store::answers::Info;
 
-pub fn set(kv: &mut [u8], rbp: &mut [u8], name: &[u8], flags: u32, data: &[u8]) -> u32 {
-    store::set::set(kv, rbp, b"the device's key", name, flags, b"the iv 8", data)
+fn narrow(n: usize) -> u32 {
+    (n % 4294967296) as u32
 }
 
-pub fn get(kv: &[u8], rbp: &[u8], name: &[u8], offset: usize, output: &mut [u8]) -> Got {
-    store::get::get(kv, rbp, b"the device's key", name, offset, output)
+fn wide(n: u32) -> u64 {
+    n as u64
 }
 
-pub fn get_info(kv: &[u8], rbp: &[u8], name: &[u8]) -> Info {
-    store::get::get_info(kv, rbp, b"the device's key", name)
+fn wide_size(n: usize) -> u64 {
+    n as u64
 }
 
-pub fn remove(kv: &mut [u8], rbp: &mut [u8], name: &[u8]) -> u32 {
-    store::remove::remove(kv, rbp, name)
+// As a key file has them.
+fn attributes(mem: &[u8]) -> KeyAttributes {
+    let mut bytes = [0u8; 20];
+    put(&mut bytes, 0, reg(mem, memory::ATTRIBUTES, 20));
+    KeyAttributes {
+        lifetime: le_at(&bytes, 0, 4),
+        key_type: le_at(&bytes, 4, 4),
+        usage: le_at(&bytes, 8, 4),
+        alg: le_at(&bytes, 12, 4),
+        enrollment_alg: le_at(&bytes, 16, 4),
+    }
 }
 
-pub fn reset(kv: &mut [u8], rbp: &mut [u8]) -> u32 {
-    store::reset::reset(kv, rbp)
+fn set(args: Args, env: Env, mem: &[u8], kv: &mut [u8], rbp: &mut [u8]) -> u32 {
+    store::set::set(
+        kv,
+        rbp,
+        reg(mem, memory::KEY, env.key),
+        reg(mem, 0, args.values[0]),
+        narrow(args.values[1]),
+        reg(mem, memory::IV, env.iv),
+        reg(mem, 2, args.values[2]),
+    )
 }
 
-// The status of a get of all the data.
-pub fn get_status(kv: &[u8], rbp: &[u8], name: &[u8]) -> u32 {
-    let mut output = [0u8; 480];
-    let got = get(kv, rbp, name, 0, &mut output);
-    got.status
+fn save(args: Args, env: Env, mem: &[u8], kv: &mut [u8], rbp: &mut [u8]) -> u32 {
+    keys::persist::save_persistent_key(
+        kv,
+        rbp,
+        reg(mem, memory::KEY, env.key),
+        narrow(args.values[0]),
+        attributes(mem),
+        reg(mem, 1, args.values[1]),
+        narrow(args.values[2]),
+        reg(mem, memory::IV, env.iv),
+    )
 }
 
-// The status of a get under another device key.
-pub fn get_wrong_key(kv: &[u8], rbp: &[u8], name: &[u8], offset: usize) -> u32 {
-    let mut output = [0u8; 480];
-    let got = store::get::get(kv, rbp, b"another box' key", name, offset, &mut output);
-    got.status
+fn write_status(
+    word: Word,
+    args: Args,
+    env: Env,
+    mem: &[u8],
+    kv: &mut [u8],
+    rbp: &mut [u8],
+) -> u32 {
+    match word {
+        Word::Set => set(args, env, mem, kv, rbp),
+        Word::Remove => store::remove::remove(kv, rbp, reg(mem, 0, args.values[0])),
+        Word::Save => save(args, env, mem, kv, rbp),
+        _ => store::reset::reset(kv, rbp),
+    }
 }
 
-// The status of a get at an offset into an output of 8 bytes.
-pub fn get_status_at(kv: &[u8], rbp: &[u8], name: &[u8], offset: usize) -> u32 {
-    let mut output = [0u8; 8];
-    let got = get(kv, rbp, name, offset, &mut output);
-    got.status
+// The calls that may write card and chip answer with a status alone.
+pub fn write_call(word: Word, args: Args, env: Env, mem: &mut [u8]) -> u32 {
+    let mut kv = [0u8; CHIP];
+    let mut rbp = [0u8; 5330];
+    put(&mut kv, 0, span(mem, 0, CHIP));
+    put(&mut rbp, 0, span(mem, CHIP, 5330));
+    let status = write_status(
+        word,
+        args,
+        env,
+        mem,
+        front_mut(&mut kv, env.lens[0]),
+        front_mut(&mut rbp, env.lens[1]),
+    );
+    put(mem, 0, &kv);
+    put(mem, CHIP, &rbp);
+    status
 }
 
-// The status of the iterator's first step.
-pub fn iterator_status(kv: &[u8], rbp: &[u8], prefix: &[u8]) -> u32 {
-    let mut name_buf = [0u8; 64];
-    let next = store::iterate::iterator_next(kv, rbp, prefix, 0, &mut name_buf);
-    next.status
+fn info(args: Args, env: Env, mem: &[u8]) -> Answer {
+    let info = store::get::get_info(
+        span(mem, 0, env.lens[0]),
+        span(mem, CHIP, env.lens[1]),
+        reg(mem, memory::KEY, env.key),
+        reg(mem, 0, args.values[0]),
+    );
+    Answer::call(3, wide(info.status), wide(info.data_size), wide(info.flags))
+}
+
+fn next(args: Args, env: Env, mem: &[u8], name_buf: &mut [u8]) -> Answer {
+    let next = store::iterate::iterator_next(
+        span(mem, 0, env.lens[0]),
+        span(mem, CHIP, env.lens[1]),
+        reg(mem, 0, args.values[0]),
+        args.values[1],
+        name_buf,
+    );
+    let name_len = wide_size(next.name_len);
+    Answer::call(3, wide(next.status), name_len, wide_size(next.next_slot))
+}
+
+fn get(args: Args, env: Env, mem: &[u8], output: &mut [u8]) -> Got {
+    store::get::get(
+        span(mem, 0, env.lens[0]),
+        span(mem, CHIP, env.lens[1]),
+        reg(mem, memory::KEY, env.key),
+        reg(mem, 0, args.values[0]),
+        args.values[1],
+        output,
+    )
+}
+
+fn load(args: Args, env: Env, mem: &[u8], key_buf: &mut [u8]) -> Got {
+    keys::persist::load_persistent_key(
+        span(mem, 0, env.lens[0]),
+        span(mem, CHIP, env.lens[1]),
+        reg(mem, memory::KEY, env.key),
+        narrow(args.values[0]),
+        key_buf,
+    )
+}
+
+fn counted(got: Got) -> Answer {
+    Answer::call(2, wide(got.status), wide_size(got.count), 0)
+}
+
+fn read_answer(word: Word, args: Args, env: Env, mem: &[u8], lent: &mut [u8]) -> Answer {
+    match word {
+        Word::Get => counted(get(args, env, mem, lent)),
+        Word::Next => next(args, env, mem, lent),
+        Word::Load => counted(load(args, env, mem, lent)),
+        _ => counted(keys::format::format_key_file(
+            attributes(mem),
+            reg(mem, 0, args.values[0]),
+            lent,
+        )),
+    }
+}
+
+// The calls that are lent a buffer: n bytes of the last register, which has them afterwards.
+fn read_call(word: Word, args: Args, n: usize, env: Env, mem: &mut [u8]) -> Answer {
+    let mut lent = [0u8; 1024];
+    put(&mut lent, 0, reg(mem, memory::LENT, n));
+    let answer = read_answer(word, args, env, mem, front_mut(&mut lent, n));
+    put(memory::reg_mut(mem, memory::LENT), 0, &lent);
+    answer.and_bytes(n)
+}
+
+pub fn call(word: Word, args: Args, env: Env, mem: &mut [u8]) -> Answer {
+    match word {
+        Word::Get | Word::Next => read_call(word, args, args.values[2], env, mem),
+        Word::Load | Word::Format => read_call(word, args, args.values[1], env, mem),
+        Word::Info => info(args, env, mem),
+        _ => Answer::call(1, wide(write_call(word, args, env, mem)), 0, 0),
+    }
 }

@@ -1,120 +1,143 @@
-// Edges of the arguments: names, data and flags.
-use crate::buf;
-use crate::calls;
-use crate::print;
+// Bytes as a line writes them (docs/EDGES.md).
+use crate::areas::byte_at;
+use crate::areas::front;
+use crate::areas::part;
+use crate::areas::put;
+use std::num::wrapping_add_usize;
+use text::hex::Coded;
 
-// Lengths beside 1 and 64, and the bytes beside the first and the last good one.
-fn set_names() {
-    let mut kv = [0u8; 1752];
-    let mut rbp = [0u8; 164];
-    let long = [b'n'; 65];
-    let empty = buf::part(&long, 0, 0);
-    print::status(
-        b"name of 0 bytes",
-        calls::set(&mut kv, &mut rbp, empty, 0, b"data"),
-    );
-    let longest = buf::part(&long, 0, 64);
-    print::status(
-        b"name of 64 bytes",
-        calls::set(&mut kv, &mut rbp, longest, 0, b"data"),
-    );
-    print::status(
-        b"name of 65 bytes",
-        calls::set(&mut kv, &mut rbp, &long, 0, b"data"),
-    );
-    print::status(
-        b"name of byte 20",
-        calls::set(&mut kv, &mut rbp, b" ", 0, b"data"),
-    );
-    print::status(
-        b"name of byte 21",
-        calls::set(&mut kv, &mut rbp, b"!", 0, b"data"),
-    );
-    print::status(
-        b"name of byte 7e",
-        calls::set(&mut kv, &mut rbp, b"~", 0, b"data"),
-    );
-    print::status(
-        b"name of byte 7f",
-        calls::set(&mut kv, &mut rbp, b"\x7f", 0, b"data"),
-    );
-    print::status(
-        b"name that ends in 20",
-        calls::set(&mut kv, &mut rbp, b"ab ", 0, b"data"),
-    );
+// How far a text was read, and a number that it gave: of bytes, or of times.
+struct Read {
+    ok: bool,
+    at: usize,
+    count: usize,
 }
 
-// The other calls judge a name too.
-fn use_bad_names() {
-    let mut kv = [0u8; 584];
-    let mut rbp = [0u8; 82];
-    let long = [b'n'; 65];
-    print::status(b"get of 65 bytes", calls::get_status(&kv, &rbp, &long));
-    print::info(b"info of byte 20", calls::get_info(&kv, &rbp, b" "));
-    print::status(
-        b"remove of byte 7f",
-        calls::remove(&mut kv, &mut rbp, b"\x7f"),
-    );
-    print::status(
-        b"prefix of 65 bytes",
-        calls::iterator_status(&kv, &rbp, &long),
-    );
-    let longest = buf::part(&long, 0, 64);
-    print::status(
-        b"prefix of 64 bytes",
-        calls::iterator_status(&kv, &rbp, longest),
-    );
-    print::status(
-        b"prefix of byte 20",
-        calls::iterator_status(&kv, &rbp, b" "),
-    );
+// The first index from one on at which one of two bytes stands, or the end.
+fn run_end(s: &[u8], from: usize, stop: u8, other: u8) -> usize {
+    let mut i = from;
+    while i < s.len() {
+        if s[i] == stop {
+            return i;
+        }
+        if s[i] == other {
+            return i;
+        }
+        i += 1;
+    }
+    i
 }
 
-// The longest data, and one byte more.
-fn set_data() {
-    let mut kv = [0u8; 584];
-    let mut rbp = [0u8; 82];
-    let data = [0xdau8; 481];
-    print::status(
-        b"data of 481",
-        calls::set(&mut kv, &mut rbp, b"a", 0, &data),
-    );
-    let most = buf::part(&data, 0, 480);
-    print::status(b"data of 480", calls::set(&mut kv, &mut rbp, b"a", 0, most));
-    print::bytes(b"data of 480, record length", buf::part(&kv, 2, 4));
-    print::info(b"data of 480, info", calls::get_info(&kv, &rbp, b"a"));
-    print::same(b"data of 480, stored", buf::part(&kv, 88, 568), most);
-}
-
-fn flags_status(flags: u32) -> u32 {
-    let mut kv = [0u8; 584];
-    let mut rbp = [0u8; 82];
-    calls::set(&mut kv, &mut rbp, b"a", flags, b"data")
-}
-
-fn print_flags_to_16() {
-    let mut flags: u32 = 0;
-    while flags < 17 {
-        print::also(flags_status(flags));
-        flags += 1;
+// Text up to the quote that ends it.
+fn quoted(s: &[u8], at: usize, unit: &mut [u8]) -> Read {
+    let end = run_end(s, at, b'"', b'"');
+    let text = part(s, at, end);
+    let fits = put(unit, 0, text);
+    Read {
+        ok: fits && end < s.len(),
+        at: wrapping_add_usize(end, 1),
+        count: text.len(),
     }
 }
 
-fn set_flags() {
-    print::text(b"flags 0 to 16:");
-    print_flags_to_16();
-    print::text(b"\n");
-    print::status(b"flags 8", flags_status(8));
-    print::status(b"flags 12", flags_status(12));
-    print::status(b"flags 16", flags_status(16));
-    print::status(b"flags 10000 hex", flags_status(0x10000));
-    print::status(b"flags 1000c hex", flags_status(0x1000c));
-    print::status(b"flags 80000000 hex", flags_status(0x80000000));
+fn hex_run(s: &[u8], at: usize, unit: &mut [u8]) -> Read {
+    let end = run_end(s, at, b' ', b'*');
+    let coded = text::hex::decode_hex(part(s, at, end), unit);
+    Read {
+        ok: coded.ok && 0 < coded.count,
+        at: end,
+        count: coded.count,
+    }
 }
 
-pub fn run() {
-    set_names();
-    use_bad_names();
-    set_data();
-    set_flags();
+// What is repeated: text in quotes, or hex.
+fn unit_at(s: &[u8], at: usize, unit: &mut [u8]) -> Read {
+    if byte_at(s, at) == b'"' {
+        quoted(s, wrapping_add_usize(at, 1), unit)
+    } else {
+        hex_run(s, at, unit)
+    }
+}
+
+// How often: as many times as stand behind a star, or once.
+fn times_at(s: &[u8], at: usize) -> Read {
+    if byte_at(s, at) != b'*' {
+        return Read {
+            ok: true,
+            at,
+            count: 1,
+        };
+    }
+    let from = wrapping_add_usize(at, 1);
+    let end = run_end(s, from, b' ', b' ');
+    let times = text::decimal::parse_decimal(part(s, from, end), 65535);
+    Read {
+        ok: times.ok,
+        at: end,
+        count: (times.value % 65536) as usize,
+    }
+}
+
+// A piece ends with the text, or with a space before the next.
+fn piece_ends(s: &[u8], at: usize) -> bool {
+    s.len() <= at || (byte_at(s, at) == b' ' && wrapping_add_usize(at, 1) < s.len())
+}
+
+fn put_times(unit: &[u8], times: usize, out: &mut [u8], count: usize) -> Read {
+    let mut all = true;
+    let mut to = count;
+    let mut i = 0;
+    while i < times {
+        let fits = put(out, to, unit);
+        all = all && fits;
+        to = wrapping_add_usize(to, unit.len());
+        i += 1;
+    }
+    Read {
+        ok: all,
+        at: 0,
+        count: to,
+    }
+}
+
+// One piece more, behind the bytes that are there.
+fn piece(s: &[u8], read: Read, out: &mut [u8]) -> Read {
+    if !read.ok || s.len() <= read.at {
+        return read;
+    }
+    let mut unit = [0u8; 1024];
+    let one = unit_at(s, read.at, &mut unit);
+    let times = times_at(s, one.at);
+    let all = put_times(front(&unit, one.count), times.count, out, read.count);
+    Read {
+        ok: one.ok && times.ok && all.ok && piece_ends(s, times.at),
+        at: wrapping_add_usize(times.at, 1),
+        count: all.count,
+    }
+}
+
+// Every piece has a byte at the least, so that as many turns as bytes are enough.
+fn pieces(s: &[u8], out: &mut [u8]) -> Coded {
+    let mut read = Read {
+        ok: true,
+        at: 0,
+        count: 0,
+    };
+    let mut i = 0;
+    while i < s.len() {
+        read = piece(s, read, out);
+        i += 1;
+    }
+    Coded {
+        ok: read.ok && 0 < s.len(),
+        count: read.count,
+    }
+}
+
+pub fn read_bytes(s: &[u8], out: &mut [u8]) -> Coded {
+    if check::same(s, b"-") {
+        Coded { ok: true, count: 0 }
+    } else {
+        pieces(s, out)
+    }
 }

@@ -1,0 +1,67 @@
+// A line's arguments, read as its word takes them.
+use crate::memory;
+use crate::values::read_bytes;
+use crate::words;
+use std::num::wrapping_add_usize;
+use text::decimal::parse_decimal;
+use text::hex::Coded;
+use text::parts::field;
+
+// What was read of each: how many bytes, which stand in a register, or a number.
+pub struct Args {
+    pub ok: bool,
+    pub values: [usize; 6],
+}
+
+fn number_arg(s: &[u8], most: u64) -> Coded {
+    let read = parse_decimal(s, most);
+    Coded {
+        ok: read.ok,
+        count: read.value as usize,
+    }
+}
+
+// 0 for the card, 1 for the chip.
+fn place_arg(s: &[u8]) -> Coded {
+    let chip = check::same(s, b"chip");
+    Coded {
+        ok: chip || check::same(s, b"card"),
+        count: chip as usize,
+    }
+}
+
+// The register of an argument's bytes: its own, but for those that have a place of their own.
+fn register(kind: u8, i: usize) -> usize {
+    match kind {
+        b'k' => memory::KEY,
+        b'i' => memory::IV,
+        b'a' => memory::ATTRIBUTES,
+        b'o' => memory::LENT,
+        b'z' => 0,
+        _ => i,
+    }
+}
+
+fn read_arg(kind: u8, s: &[u8], i: usize, mem: &mut [u8]) -> Coded {
+    match kind {
+        b'n' => number_arg(s, 18446744073709551615),
+        b'u' => number_arg(s, 4294967295),
+        b'p' => place_arg(s),
+        b'x' | 0 => Coded { ok: true, count: 0 },
+        _ => read_bytes(s, memory::reg_mut(mem, register(kind, i))),
+    }
+}
+
+pub fn read_args(index: usize, line: &[u8], mem: &mut [u8]) -> Args {
+    let mut ok = true;
+    let mut values = [0usize; 6];
+    let mut i = 0;
+    while i < 6 {
+        let k = wrapping_add_usize(i, 1);
+        let arg = read_arg(words::kind(index, k), field(line, k), i, mem);
+        ok = ok && arg.ok;
+        values[i] = arg.count;
+        i += 1;
+    }
+    Args { ok, values }
+}
