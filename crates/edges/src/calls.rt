@@ -1,15 +1,15 @@
 // The calls, on the card, chip, key and IV that last, with a line's arguments. What a call may write is lent as a copy, and put back.
-use crate::answer::Answer;
-use crate::areas::front_mut;
-use crate::areas::put;
-use crate::areas::span;
-use crate::args::Args;
-use crate::memory;
-use crate::memory::CHIP;
-use crate::memory::reg;
-use crate::state::Env;
-use crate::words::Word;
 use buffers::numbers::le_at;
+use edge_lines::answer::Answer;
+use edge_lines::areas::front_mut;
+use edge_lines::areas::put;
+use edge_lines::areas::span;
+use edge_lines::args::Args;
+use edge_lines::memory;
+use edge_lines::memory::CHIP;
+use edge_lines::memory::reg;
+use edge_lines::state::Env;
+use edge_lines::words::Word;
 use keys::key_file::KeyAttributes;
 use store::answers::Got;
 

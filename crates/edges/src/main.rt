@@ -1,20 +1,12 @@
 // Runs the edges that stand in text files (docs/EDGES.md): each line is a call with its arguments and the answer that the papers give. Writes how many of
 // each group's lines were as expected, each line that was not, and a verdict.
-mod answer;
-mod areas;
-mod args;
 mod calls;
 mod file;
-mod memory;
-mod print;
-mod state;
 mod sweep;
-mod tally;
-mod values;
-mod words;
 
-use areas::front;
-use tally::Tally;
+use edge_lines::areas::front;
+use edge_lines::print;
+use edge_lines::tally::Tally;
 
 fn run_argument(i: usize) -> Tally {
     let mut name = [0u8; 256];

@@ -3,8 +3,8 @@ use borrow.Author.Needs.{needs}
 use Prim.Native.Nat.{_≤_, _-_}
 use lib.ListN.{length}
 use mathlib.Core.Path.{_≡_}
-use Rattle.edges.proofs.args.read_args.Statement.{statement}
-use Rattle.edges.proofs.args.read_args.Tie as tie
+use Rattle.edge_lines.proofs.args.read_args.Statement.{statement}
+use Rattle.edge_lines.proofs.args.read_args.Tie as tie
 
 abbrev Inv-loop : tie.InvT-loop
 Inv-loop index line mem₀ ok₀ values₀ i₀ mem ok values i = (i ≤ 6) × (length mem ≡ length mem₀) × (length values ≡ 6)

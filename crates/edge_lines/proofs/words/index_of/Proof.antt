@@ -1,8 +1,8 @@
 -- `words::index_of` is safe and ends.
 use borrow.Author.Needs.{needs}
 use Prim.Native.Nat.{_≤_, _-_}
-use Rattle.edges.proofs.words.index_of.Statement.{statement}
-use Rattle.edges.proofs.words.index_of.Tie as tie
+use Rattle.edge_lines.proofs.words.index_of.Statement.{statement}
+use Rattle.edge_lines.proofs.words.index_of.Tie as tie
 
 abbrev Inv-loop : tie.InvT-loop
 Inv-loop name words i₀ i = i ≤ 25

@@ -3,8 +3,8 @@ use borrow.Author.Needs.{needs}
 use Prim.Native.Nat.{_≤_, _-_}
 use lib.ListN.{length}
 use mathlib.Core.Path.{_≡_}
-use Rattle.edges.proofs.areas.flip.Statement.{statement}
-use Rattle.edges.proofs.areas.flip.Tie as tie
+use Rattle.edge_lines.proofs.areas.flip.Statement.{statement}
+use Rattle.edge_lines.proofs.areas.flip.Tie as tie
 
 abbrev Inv-loop : tie.InvT-loop
 Inv-loop s₀ at «data» i₀ s i = (i ≤ length «data») × (length s ≡ length s₀)

@@ -2,8 +2,8 @@
 use borrow.Author.Needs.{needs}
 use Prim.Native.Nat.{_≤_, _-_}
 use lib.ListN.{length}
-use Rattle.edges.proofs.values.run_end.Statement.{statement}
-use Rattle.edges.proofs.values.run_end.Tie as tie
+use Rattle.edge_lines.proofs.values.run_end.Statement.{statement}
+use Rattle.edge_lines.proofs.values.run_end.Tie as tie
 
 abbrev Inv-loop : tie.InvT-loop
 Inv-loop s from stop other i₀ i = 0 ≤ i
