@@ -62,7 +62,7 @@ typedef uint32_t securestore_status;
 #define SECURESTORE_ERR_INVALID_NAME 3u   /* bad name, prefix or key identifier */
 #define SECURESTORE_ERR_INVALID_FLAGS 4u  /* unknown bits, or replay protection without integrity */
 #define SECURESTORE_ERR_DATA_SIZE 5u      /* more data than a record holds */
-#define SECURESTORE_ERR_NOT_FOUND 6u      /* the card does not hold the name, or no name from there on has the prefix */
+#define SECURESTORE_ERR_NOT_FOUND 6u      /* the card does not hold the name, nor, where it is to be read, the chip; or no name from there on has the prefix */
 #define SECURESTORE_ERR_ALREADY_EXISTS 7u /* the old or the new flags say write once, and there is something under the name */
 #define SECURESTORE_ERR_INVALID_RECORD 8u /* the stored record is not well formed */
 #define SECURESTORE_ERR_FLAGS_MISMATCH 9u /* the flags differ from the stored ones */
