@@ -13,7 +13,6 @@ use crate::values::read_bytes;
 use crate::words::Word;
 use buffers::parts::clear;
 use std::num::wrapping_add_usize;
-use text::hex::Coded;
 use text::parts::field;
 
 // Lengths of the card (0) and the chip (1), and of both in each copy: one that no copy can have where there is none. Not `ok` is a line that could not
@@ -139,8 +138,11 @@ fn put_back(args: Args, env: Env, mem: &mut [u8]) -> Env {
     let copy = args.values[1];
     let base = place % 2 * CHIP;
     let n = env.kept_len(place, copy);
+    if 3 < copy || MEDIA <= n {
+        return env.and_ok(false);
+    }
     let done = copy_within(mem, wrapping_add_usize(copy_at(copy), base), base, n);
-    env.with_len(place, n).and_ok(done && copy < 4 && n < MEDIA)
+    env.with_len(place, n).and_ok(done)
 }
 
 // The words that are about the registers, or the line, alone.

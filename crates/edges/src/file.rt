@@ -49,7 +49,7 @@ fn answer_of(index: usize, line: &[u8], args: Args, env: Env, mem: &mut [u8]) ->
     match word {
         Word::At => sweep::at(line, args, env, mem),
         Word::Same => sweep::same(args, env, mem),
-        Word::Fill => Answer::of(1, sweep::fill(args.values[0], args, env, mem), 0, 0),
+        Word::Fill => sweep::fill(args, env, mem),
         Word::Bits => sweep::run_sweep(true, 4, line, args, env, mem),
         Word::Each => sweep::run_sweep(false, 5, line, args, env, mem),
         Word::Unknown => Answer::unreadable(),

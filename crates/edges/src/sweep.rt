@@ -192,8 +192,7 @@ fn fill_one(i: usize, args: Args, env: Env, mem: &mut [u8]) -> u64 {
     }
 }
 
-// How many of n sets are done.
-pub fn fill(n: usize, args: Args, env: Env, mem: &mut [u8]) -> u64 {
+fn fill_names(n: usize, args: Args, env: Env, mem: &mut [u8]) -> u64 {
     let mut done: u64 = 0;
     let mut i = 0;
     while i < n {
@@ -201,4 +200,13 @@ pub fn fill(n: usize, args: Args, env: Env, mem: &mut [u8]) -> u64 {
         i += 1;
     }
     done
+}
+
+// How many of n sets are done. Only 94 bytes make a good name behind "n".
+pub fn fill(args: Args, env: Env, mem: &mut [u8]) -> Answer {
+    let n = args.values[0];
+    if 94 < n {
+        return Answer::unreadable();
+    }
+    Answer::of(1, fill_names(n, args, env, mem), 0, 0)
 }

@@ -1,10 +1,10 @@
--- `sweep::fill` is safe and ends.
+-- `sweep::fill_names` is safe and ends.
 use borrow.Author.Needs.{needs}
 use Prim.Native.Nat.{_≤_, _-_}
 use lib.ListN.{length}
 use mathlib.Core.Path.{_≡_}
-use Rattle.edges.proofs.sweep.fill.Statement.{statement}
-use Rattle.edges.proofs.sweep.fill.Tie as tie
+use Rattle.edges.proofs.sweep.fill_names.Statement.{statement}
+use Rattle.edges.proofs.sweep.fill_names.Tie as tie
 
 abbrev Inv-loop : tie.InvT-loop
 Inv-loop n args env mem₀ done₀ i₀ mem done i = (i ≤ n) × (length mem ≡ length mem₀)
@@ -36,8 +36,8 @@ same-length c = search needs
 returns : tie.Need-returns Inv-loop μ-loop
 returns c = search needs
 
-pub fill-spec : {M : Type 1} → statement M
-fill-spec =
+pub fill-names-spec : {M : Type 1} → statement M
+fill-names-spec =
     tie.close
     (tie.spec
     Inv-loop
