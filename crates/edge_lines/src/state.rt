@@ -123,6 +123,9 @@ fn copy_within(mem: &mut [u8], from: usize, to: usize, n: usize) -> bool {
 
 fn keep(args: Args, env: Env, mem: &mut [u8]) -> Env {
     let copy = args.values[0];
+    if 3 < copy {
+        return env.and_ok(false);
+    }
     let done = copy_within(mem, 0, copy_at(copy), MEDIA);
     let at = copy % 4 * 2;
     let mut kept = env.kept;
@@ -130,7 +133,7 @@ fn keep(args: Args, env: Env, mem: &mut [u8]) -> Env {
     kept[at + 1] = env.lens[1];
     let mut next = env;
     next.kept = kept;
-    next.and_ok(done && copy < 4)
+    next.and_ok(done)
 }
 
 fn put_back(args: Args, env: Env, mem: &mut [u8]) -> Env {

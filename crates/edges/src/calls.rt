@@ -1,12 +1,14 @@
 // The calls, on the card, chip, key and IV that last, with a line's arguments. What a call may write is lent as a copy, and put back.
 use buffers::numbers::le_at;
 use edge_lines::answer::Answer;
+use edge_lines::areas::front;
 use edge_lines::areas::front_mut;
 use edge_lines::areas::put;
 use edge_lines::areas::span;
 use edge_lines::args::Args;
 use edge_lines::memory;
 use edge_lines::memory::CHIP;
+use edge_lines::memory::MEDIA;
 use edge_lines::memory::reg;
 use edge_lines::state::Env;
 use edge_lines::words::Word;
@@ -80,7 +82,7 @@ fn write_status(
 }
 
 // The calls that may write card and chip answer with a status alone.
-pub fn write_call(word: Word, args: Args, env: Env, mem: &mut [u8]) -> u32 {
+fn write_call(word: Word, args: Args, env: Env, mem: &mut [u8]) -> u32 {
     let mut kv = [0u8; CHIP];
     let mut rbp = [0u8; 5330];
     put(&mut kv, 0, span(mem, 0, CHIP));
@@ -167,11 +169,19 @@ fn read_call(word: Word, args: Args, n: usize, env: Env, mem: &mut [u8]) -> Answ
     answer.and_bytes(n)
 }
 
-pub fn call(word: Word, args: Args, env: Env, mem: &mut [u8]) -> Answer {
+fn call(word: Word, args: Args, env: Env, mem: &mut [u8]) -> Answer {
     match word {
         Word::Get | Word::Next => read_call(word, args, args.values[2], env, mem),
         Word::Load | Word::Format => read_call(word, args, args.values[1], env, mem),
         Word::Info => info(args, env, mem),
         _ => Answer::call(1, wide(write_call(word, args, env, mem)), 0, 0),
     }
+}
+
+// A call of a line, of a sweep or of a fill: where it is refused, every byte of card and chip must be as it was.
+pub fn checked_call(word: Word, args: Args, env: Env, mem: &mut [u8]) -> Answer {
+    let mut before = [0u8; MEDIA];
+    put(&mut before, 0, front(mem, MEDIA));
+    let answer = call(word, args, env, mem);
+    answer.and_changed(!check::same(&before, front(mem, MEDIA)))
 }

@@ -5,11 +5,9 @@ use edge_lines::answer;
 use edge_lines::answer::Answer;
 use edge_lines::areas::front;
 use edge_lines::areas::part;
-use edge_lines::areas::put;
 use edge_lines::args;
 use edge_lines::args::Args;
 use edge_lines::memory;
-use edge_lines::memory::MEDIA;
 use edge_lines::memory::MEMORY;
 use edge_lines::print;
 use edge_lines::state;
@@ -53,20 +51,18 @@ fn answer_of(index: usize, line: &[u8], args: Args, env: Env, mem: &mut [u8]) ->
         Word::Bits => sweep::run_sweep(true, 4, line, args, env, mem),
         Word::Each => sweep::run_sweep(false, 5, line, args, env, mem),
         Word::Unknown => Answer::unreadable(),
-        _ => calls::call(word, args, env, mem),
+        _ => calls::checked_call(word, args, env, mem),
     }
 }
 
-// A line whose arguments can be read is carried out; a refusal leaves every byte of card and chip.
+// A line whose arguments can be read is carried out.
 fn answer_line(index: usize, line: &[u8], env: Env, mem: &mut [u8]) -> Answer {
     let args = args::read_args(index, line, mem);
-    if !args.ok {
-        return Answer::unreadable();
+    if args.ok {
+        answer_of(index, line, args, env, mem)
+    } else {
+        Answer::unreadable()
     }
-    let mut before = [0u8; MEDIA];
-    put(&mut before, 0, front(mem, MEDIA));
-    let answer = answer_of(index, line, args, env, mem);
-    answer.and_changed(!check::same(&before, front(mem, MEDIA)))
 }
 
 fn print_line(file: &[u8], k: usize, line: &[u8]) {

@@ -19,7 +19,7 @@ use std::num::wrapping_add_usize;
 use std::num::wrapping_sub_usize;
 use text::parts::field;
 
-// A status that no call has: the trials answered differently.
+// A status that no call has: the trials answered differently, or one was refused and changed card or chip.
 const MIXED: u64 = 4294967295;
 
 // As many bytes as are expected, from an index on.
@@ -117,9 +117,13 @@ fn trial(
     let at = wrapping_add_usize(base, index_at(sweep, i));
     let mask = mask_at(sweep, i, byte_at(mem, at));
     flip_byte(mem, at, mask);
-    let answer = calls::call(words::answering(index), args, env, mem);
+    let answer = calls::checked_call(words::answering(index), args, env, mem);
     flip_byte(mem, at, mask);
-    answer.values[0]
+    if answer.changed {
+        MIXED
+    } else {
+        answer.values[0]
+    }
 }
 
 // The status of all n trials, or that they differ.
@@ -178,17 +182,20 @@ pub fn run_sweep(
     Answer::call(1, status, 0, 0)
 }
 
-// 1 where the set of the name "n" and byte i from 0x21 on is done: the name stands in register 0.
+// 1 where the set of the name "n" and byte i from 0x21 on is done, more than any count where it was refused and changed card or chip. The name stands in
+// register 0.
 fn fill_one(i: usize, args: Args, env: Env, mem: &mut [u8]) -> u64 {
     let name = [b'n', narrow(wrapping_add_usize(0x21, i))];
     put(memory::reg_mut(mem, 0), 0, &name);
     let mut values = args.values;
     values[0] = 2;
-    let set = Args { ok: true, values };
-    if calls::write_call(Word::Set, set, env, mem) == 0 {
-        1
-    } else {
+    let answer = calls::checked_call(Word::Set, Args { ok: true, values }, env, mem);
+    if answer.changed {
+        MIXED
+    } else if answer.refused {
         0
+    } else {
+        1
     }
 }
 
