@@ -15,6 +15,11 @@
  * Answers. A store call returns one of the numbers below, that of the first test that fails in the order given at the call. A refusal changes no lent
  * buffer and writes 0 through every out-number (count, data_size, flags, name_len, next_slot, a key file's fields).
  *
+ * Names. A name has 1 to 64 bytes, each 0x20 to 0x7e or 0x80 to 0xff. Any other byte, that is a control byte (0x00 to 0x1f) or 0x7f, is refused with 3 in
+ * a name or prefix that is given, and is damage (2) in one that stands on card or chip. No encoding is asked for and nothing is made alike: spaces count,
+ * upper and lower case differ, and an accented letter in UTF-8 and in Latin-1 gives two names. So names are bytes, with no terminator: whoever shows them
+ * must expect any of these bytes, also broken UTF-8. Versions before 0.2.0 knew 0x21 to 0x7e alone; to them a card or chip with another name is damaged.
+ *
  * Protection is what the stored record's flags ask for, and these flags are on the card. A get of a record without integrity checks no CMAC, and one of
  * a record without replay protection does not ask the chip, also where the chip holds the name: whoever can write the card can put such a record
  * there. A caller that relies on protection asks securestore_get_info on the same buffers for the flags and compares them before it uses the data.
@@ -49,9 +54,9 @@
 
 /* Version of header and library. */
 #define SECURESTORE_VERSION_MAJOR 0
-#define SECURESTORE_VERSION_MINOR 1
+#define SECURESTORE_VERSION_MINOR 2
 #define SECURESTORE_VERSION_PATCH 0
-#define SECURESTORE_VERSION_STRING "0.1.0"
+#define SECURESTORE_VERSION_STRING "0.2.0"
 
 /* What the store's calls return: one of these numbers. */
 typedef uint32_t securestore_status;
@@ -86,7 +91,7 @@ typedef uint32_t securestore_status;
 #define SECURESTORE_DEVICE_KEY_SIZE 16u
 #define SECURESTORE_IV_SIZE 8u
 #define SECURESTORE_BLOCK_SIZE 16u
-#define SECURESTORE_NAME_MAX 64u /* a name has 1 to 64 bytes, each 0x21 to 0x7e */
+#define SECURESTORE_NAME_MAX 64u /* a name has 1 to 64 bytes, each 0x20 to 0x7e or 0x80 to 0xff: see Names above */
 #define SECURESTORE_DATA_MAX 480u
 #define SECURESTORE_KEY_ID_MIN 1u
 #define SECURESTORE_KEY_ID_MAX 0xfffeffffu

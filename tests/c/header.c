@@ -72,7 +72,7 @@ static void test_version(void)
     char text[64];
     sprintf(text, "%d.%d.%d", SECURESTORE_VERSION_MAJOR, SECURESTORE_VERSION_MINOR, SECURESTORE_VERSION_PATCH);
     expect(strcmp(text, SECURESTORE_VERSION_STRING) == 0, "version: string and numbers agree");
-    expect(strcmp(SECURESTORE_VERSION_STRING, "0.1.0") == 0, "version: 0.1.0");
+    expect(strcmp(SECURESTORE_VERSION_STRING, "0.2.0") == 0, "version: 0.2.0");
 }
 
 static void test_aes(void)
@@ -198,6 +198,53 @@ static void test_iterator_next(void)
     expect(name_len == 0 && next_slot == 0, "iterator_next: a refusal gives zeros");
 }
 
+/* What the header says of names: each byte alone as a name, as a prefix and in a slot; names as players type them, all of them unlike. */
+static void test_names(void)
+{
+    static const char *const typed[] = {"Cello 3", "Cello", "Cello ", " Cello", "cello", "Fl\xc3\xb6te", "Fl\xf6te", "Flo\xcc\x88te", "Fl\xc3"};
+    enum { TYPED = sizeof typed / sizeof typed[0] };
+    uint8_t card[TYPED * SECURESTORE_KV_SLOT_SIZE] = {0}, chip[SECURESTORE_RBP_SLOT_SIZE] = {0}, buf[64], longest[65];
+    size_t count, name_len, next_slot;
+    unsigned byte, wrong = 0;
+    for (byte = 0; byte < 256; byte++) {
+        const int out = byte < 0x20 || byte == 0x7f;
+        const uint8_t name[1] = {(uint8_t)byte};
+        uint8_t one[SECURESTORE_KV_SLOT_SIZE] = {0}, blank[SECURESTORE_RBP_SLOT_SIZE] = {0};
+        wrong += securestore_iterator_next(one, sizeof one, blank, sizeof blank, name, 1, 0, buf, sizeof buf, &name_len, &next_slot)
+                 != (out ? SECURESTORE_ERR_INVALID_NAME : SECURESTORE_ERR_NOT_FOUND);
+        wrong += securestore_set(one, sizeof one, blank, sizeof blank, KEY, sizeof KEY, name, 1, 0, IV, sizeof IV, LINE, 4)
+                 != (out ? SECURESTORE_ERR_INVALID_NAME : SECURESTORE_OK);
+        memset(one, 0, sizeof one);
+        wrong += securestore_set(one, sizeof one, blank, sizeof blank, KEY, sizeof KEY, NAME, 1, 0, IV, sizeof IV, LINE, 4) != SECURESTORE_OK;
+        one[4] = name[0];
+        wrong += securestore_get(one, sizeof one, blank, sizeof blank, KEY, sizeof KEY, NAME, 1, 0, buf, sizeof buf, &count)
+                 != (out ? SECURESTORE_ERR_CORRUPT : byte == 'a' ? SECURESTORE_OK : SECURESTORE_ERR_NOT_FOUND);
+    }
+    expect(wrong == 0, "names: each byte, given and stored");
+    for (byte = 0; byte < TYPED; byte++) {
+        const uint8_t data[1] = {(uint8_t)byte};
+        wrong += securestore_set(card, sizeof card, chip, sizeof chip, KEY, sizeof KEY, (const uint8_t *)typed[byte], strlen(typed[byte]), 0, IV, sizeof IV,
+                                 data, 1)
+                 != SECURESTORE_OK;
+    }
+    expect(wrong == 0, "names: as they are typed");
+    for (byte = 0; byte < TYPED; byte++) {
+        wrong += securestore_get(card, sizeof card, chip, sizeof chip, KEY, sizeof KEY, (const uint8_t *)typed[byte], strlen(typed[byte]), 0, buf, 1, &count)
+                     != SECURESTORE_OK
+                 || count != 1 || buf[0] != byte;
+    }
+    expect(wrong == 0, "names: each has its own record");
+    memset(buf, 0, sizeof buf);
+    expect(securestore_iterator_next(card, sizeof card, chip, sizeof chip, (const uint8_t *)"Cello ", 6, 1, buf, sizeof buf, &name_len, &next_slot)
+                   == SECURESTORE_OK
+               && name_len == 6 && next_slot == 3 && memcmp(buf, "Cello ", 6) == 0,
+           "names: a prefix that ends in a space");
+    memset(kv, 0, sizeof kv);
+    memset(rbp, 0, sizeof rbp);
+    memset(longest, 0xff, sizeof longest);
+    expect(set(longest, 65, 0, LINE, 4) == SECURESTORE_ERR_INVALID_NAME && set(longest, 64, 0, LINE, 4) == SECURESTORE_OK, "names: 64 bytes of 0xff");
+}
+
 static void test_remove_and_reset(void)
 {
     static const uint8_t zeros[2 * SECURESTORE_KV_SLOT_SIZE] = {0};
@@ -290,6 +337,7 @@ int main(void)
     test_format_key_file();
     test_parse_key_file();
     test_keys();
+    test_names();
     printf("%u passed, %u failed\n", passed, failed);
     return failed != 0;
 }

@@ -9,14 +9,15 @@ pub const ENTRY: usize = 82;
 const SLOTS_MAX: usize = 64;
 const RECORD_AT: usize = 4 + NAME_MAX;
 
-/// 1 to 64 bytes, each 0x21 to 0x7E.
+/// 1 to 64 bytes, each 0x20 to 0x7E or 0x80 to 0xFF (02, No. 1).
 pub fn good_name(name: &[u8]) -> bool {
     !name.is_empty() && name_bytes(name)
 }
 
 /// At most 64 bytes, each one that a good name may hold: what a prefix has to be.
 pub fn name_bytes(bytes: &[u8]) -> bool {
-    bytes.len() <= NAME_MAX && bytes.iter().all(|byte| (0x21..=0x7e).contains(byte))
+    let good = |byte: &u8| matches!(byte, 0x20..=0x7e | 0x80..=0xff);
+    bytes.len() <= NAME_MAX && bytes.iter().all(good)
 }
 
 /// A used place or entry.
@@ -206,12 +207,15 @@ mod tests {
 
     #[test]
     fn names() {
-        assert!(good_name(&[0x21; 64]) && good_name(&[0x7e]));
-        assert!(!good_name(b"") && !good_name(&[0x21; 65]));
-        for byte in [0, 0x20, 0x7f, 0x80, 0xff] {
-            assert!(!good_name(&[b'a', byte]));
+        assert!(!good_name(b"") && name_bytes(b""));
+        for byte in [0x20, 0x21, 0x7e, 0x80, 0x9f, 0xff] {
+            assert!(good_name(&[byte]) && good_name(&[byte; 64]) && !good_name(&[byte; 65]));
+            assert!(name_bytes(&[byte; 64]) && !name_bytes(&[byte; 65]));
         }
-        assert!(name_bytes(b"") && !name_bytes(&[0x21; 65]));
+        for byte in [0, 0x0a, 0x14, 0x1f, 0x7f] {
+            assert!(!good_name(&[b'a', byte]) && !name_bytes(&[byte]));
+        }
+        assert!(good_name(b"Cello 3") && good_name("Flöte".as_bytes()) && good_name(b"Fl\xf6te"));
     }
 
     #[test]

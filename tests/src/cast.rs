@@ -9,7 +9,9 @@ use crate::rng::Rng;
 const GOOD_FLAGS: [u32; 12] = [0, 1, 2, 3, 4, 5, 6, 7, 12, 13, 14, 15];
 /// Flags of a start: write once seldom, since it freezes a name.
 const USUAL_FLAGS: [u32; 14] = [0, 0, 2, 2, 4, 6, 6, 12, 12, 12, 14, 14, 5, 15];
-pub const BAD_BYTES: [u8; 7] = [0, 0x20, 0x7f, 0x80, 0xff, 0x0a, 0x1f];
+pub const BAD_BYTES: [u8; 5] = [0, 0x0a, 0x14, 0x1f, 0x7f];
+/// The ends of the two ranges of good bytes.
+const END_BYTES: [u8; 4] = [0x20, 0x7e, 0x80, 0xff];
 const DATA_SIZES: [usize; 14] = [0, 1, 2, 15, 16, 17, 31, 32, 33, 64, 100, 300, 479, 480];
 const OUTPUT_SIZES: [usize; 12] = [0, 1, 7, 15, 16, 17, 33, 64, 479, 480, 481, 600];
 pub const GOOD_IDENTIFIERS: [u32; 5] = [1, 42, 0xfffe_ffff, 0x0001_0000, 0x89ab_cdef];
@@ -36,7 +38,7 @@ impl Cast {
                 _ => family[..length].to_vec(),
             };
             if rng.percent(30) {
-                *name.last_mut().expect("not empty") = rng.pick(&[0x21, 0x7e]);
+                *name.last_mut().expect("not empty") = rng.pick(&END_BYTES);
             }
             names.push(name);
         }
@@ -53,7 +55,11 @@ impl Cast {
 }
 
 fn good_bytes(rng: &mut Rng, length: usize) -> Vec<u8> {
-    (0..length).map(|_| 0x21 + rng.below(0x5e) as u8).collect()
+    let mut byte = || match rng.below(0x5f + 0x80) as u8 {
+        low @ 0..=0x5e => 0x20 + low,
+        high => 0x80 + (high - 0x5f),
+    };
+    (0..length).map(|_| byte()).collect()
 }
 
 pub fn hostile_name(rng: &mut Rng) -> Vec<u8> {

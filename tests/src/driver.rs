@@ -9,7 +9,7 @@ use reference::library::Library;
 use reference::rng::Rng;
 use reference::stories;
 use reference::tally::{Tally, NUMBERS};
-use reference::{edges, generator, lists, orders, parsing};
+use reference::{edges, generator, lists, names, orders, parsing};
 
 use crate::openssl;
 
@@ -66,6 +66,9 @@ pub fn run(library: &dyn Library, options: &Options) -> Score {
     let rng = Rng::part(options.seed, 6 << 40);
     score.check("random-key-files", parsing::random_key_files(library, rng));
     for (name, checked) in edges::checks(library, &options.edges) {
+        score.check(&name, checked);
+    }
+    for (name, checked) in names::checks(library) {
         score.check(&name, checked);
     }
     for (name, checked) in orders::checks(library) {

@@ -1,5 +1,5 @@
-//! A second implementation of the secure store, written from paper 01 and the
-//! standards alone, and the stories that try the product against it.
+//! A second implementation of the secure store, written from papers 01 and 02
+//! and the standards alone, and the stories that try the product against it.
 
 pub mod aes;
 pub mod answer;
@@ -16,6 +16,7 @@ pub mod kdf;
 pub mod keyfile;
 pub mod library;
 pub mod lists;
+pub mod names;
 pub mod orders;
 pub mod parsing;
 pub mod record;

@@ -95,7 +95,7 @@ const BAD_NAME: Fault = (3, |scene| match &mut scene.call {
     | Call::Get { name, .. }
     | Call::Info { name, .. }
     | Call::Remove { name }
-    | Call::Walk { prefix: name, .. } => name.push(b' '),
+    | Call::Walk { prefix: name, .. } => name.push(0x7f),
     Call::KeepKey { identifier, .. } | Call::LoadKey { identifier, .. } => *identifier = 0,
     _ => unreachable!("no name"),
 });

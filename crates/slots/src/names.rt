@@ -6,10 +6,10 @@ ghost use Rattle.spec.specs.Name.{validNameByte, validName, validPrefix};
 fn valid_name_byte(b: u8) -> bool
     ensures { λ r. ⌜ r ≡ validNameByte b ⌝ }
 {
-    if b < 0x21 {
+    if b < 0x20 {
         return false;
     }
-    b <= 0x7e
+    b != 0x7f
 }
 
 fn valid_name_bytes(s: &[u8]) -> bool

@@ -1,15 +1,48 @@
--- Laws of names. Nothing but what computes opens the definition of a valid byte elsewhere.
+-- Laws of names. The definition of a valid byte is opened by its two laws here, and elsewhere only where something is computed.
 use mathlib.Core.Path.{_≡_, refl, _∙_}
 use mathlib.Core.Bool.{true, _&&_}
+use mathlib.Core.Logic.{_↔_}
 use mathlib.Core.List.{List, [], _∷_, _++_}
 use Prim.Native.Nat.{ℕ, zero, suc, _+_, _/_, _%_, _≤_, _<_}
 use native.Mathlib.Omega.{arith}
-use borrow.Author.Tests.{leb-true, le-leb, ltb-true, ltb-false}
+use borrow.Author.Tests.{leb-true, leb-false, le-leb, ltb-true, ltb-false}
 use lib.Dec.{leb, ltb}
 use lib.ListN.{length, length-append}
 use Rattle.buffers.specs.Bytes.{every}
 use Rattle.spec.specs.Name.{Name, validNameByte, validName, hexDigit, hexDigits, keyName}
+use Rattle.spec.specs.Shapes.{NameByte, NameByteShape}
 use Rattle.buffers.proofs.Split.{split, both}
+
+-- ---- a byte
+
+pub byte-good : (b : ℕ) → validNameByte b ≡ true → NameByte b
+unfolding validNameByte
+byte-good b h = split (leb 0x20 b && leb b 0x7e)
+    (λ e.
+    let p = both (leb 0x20 b) (leb b 0x7e) e in
+    let u = leb-true 0x20 b (p .0) in
+    let v = leb-true b 0x7e (p .1) in
+    (u, λ k. omega arith, omega arith))
+    (λ e.
+    let p = both (leb 0x80 b) (leb b 0xff) (rw e at h) in
+    let u = leb-true 0x80 b (p .0) in
+    (omega arith, λ k. omega arith, leb-true b 0xff (p .1)))
+
+pub good-byte : (b : ℕ) → NameByte b → validNameByte b ≡ true
+unfolding validNameByte
+good-byte b h = split (leb b 0x7e)
+    (λ e. rw (le-leb 0x20 b (h .0), e))
+    (λ e.
+    let u = leb-false b 0x7e e in
+    split (leb 0x80 b)
+    (λ k. rw (le-leb 0x20 b (h .0), e, k, le-leb b 0xff (h .2)))
+    (λ k. let v = leb-false 0x80 b k in absurd (h .1 (omega arith))))
+
+pub byte-shape : NameByteShape
+unfolding validNameByte
+byte-shape = record { exact = λ b. (byte-good b, good-byte b); not-fill = refl; not-metadata = refl }
+
+-- ---- a name
 
 pub record ValidName (n : Name) : Type 0 where
   pub not-empty : 1 ≤ length n
@@ -33,10 +66,9 @@ every-append [] b h k = k
 every-append (x ∷ a) b h k = let p = both (validNameByte x) (every validNameByte a) h in rw (p .0, every-append a b (p .1) k)
 
 digit-valid : (d : ℕ) → d < 16 → validNameByte (hexDigit d) ≡ true
-unfolding validNameByte
 digit-valid d h = split (ltb d 10)
-    (λ e. let k = ltb-true d 10 e in rw (e, le-leb 0x21 (0x30 + d) (omega arith), le-leb (0x30 + d) 0x7e (omega arith)))
-    (λ e. let k = ltb-false d 10 e in rw (e, le-leb 0x21 (0x57 + d) (omega arith), le-leb (0x57 + d) 0x7e (omega arith)))
+    (λ e. let k = ltb-true d 10 e in rw e (good-byte (0x30 + d) (omega arith, λ q. omega arith, omega arith)))
+    (λ e. let k = ltb-false d 10 e in rw e (good-byte (0x57 + d) (omega arith, λ q. omega arith, omega arith)))
 
 digits-valid : (k n : ℕ) → every validNameByte (hexDigits k n) ≡ true
 digits-valid zero n = refl

@@ -18,7 +18,7 @@ use Rattle.spec.specs.Record.{dataSizeOf, flagsOf, ivOf, metadataOf, sto
 use Rattle.spec.specs.Area.{Format, kvFormat, rbpFormat, nameLength, slotFree, payloadSize, slotName}
 use Rattle.spec.specs.Area.{slotPayload, slotUsed, slotValid, slotHolder, makeSlot, slotCount, sized}
 use Rattle.spec.specs.Layout.{metadataBytes, recordBytes}
-use Rattle.spec.specs.Shapes.{AreBytes, Printable, GoodFlags, FlagShape, Multiple, WellFormed}
+use Rattle.spec.specs.Shapes.{AreBytes, NameBytes, GoodFlags, FlagShape, Multiple, WellFormed}
 use Rattle.spec.specs.Shapes.{RecordParts, RecordShape, UsedPlace, UsedEntry, SlotShape, Shapes}
 use Rattle.buffers.proofs.Split.{split, clash, both, not-some}
 use Rattle.buffers.proofs.LittleEndian.{number-part}
@@ -26,7 +26,7 @@ use Rattle.buffers.proofs.Bytes.{allZero-zeros, le-value}
 use Rattle.spec.proofs.First.{every-index, index-every}
 use Rattle.spec.proofs.Area.{sized-parts}
 use Rattle.spec.proofs.Intact.{intact-shape, lookup-shape}
-use Rattle.spec.proofs.Name.{valid-name}
+use Rattle.spec.proofs.Name.{byte-good, good-byte, byte-shape, valid-name}
 use Rattle.spec.proofs.Slot.{FormatLaws, Fits, kv-laws, rbp-laws, kv-fits, rbp-fits, not-free}
 use Rattle.spec.proofs.Slot.{made-valid, made-state, made-holder, made-payload, UsedSlot, used-slot}
 use Rattle.spec.proofs.Get.{mac-eq, eq-mac, match-eq, eq-match}
@@ -36,31 +36,23 @@ use Rattle.spec.proofs.Record.{joined-length, joined-metadata, joined-s
 
 -- ---- names
 
-byte-range : (b : ℕ) → validNameByte b ≡ true → (0x21 ≤ b) × (b ≤ 0x7e)
-unfolding validNameByte
-byte-range b h = let p = both (leb 0x21 b) (leb b 0x7e) h in (leb-true 0x21 b (p .0), leb-true b 0x7e (p .1))
+all-good : (l : List ℕ) → every validNameByte l ≡ true → NameBytes l
+all-good l h i k = byte-good (getD l i 0) (every-index validNameByte l 0 h i k)
 
-range-byte : (b : ℕ) → (0x21 ≤ b) × (b ≤ 0x7e) → validNameByte b ≡ true
-unfolding validNameByte
-range-byte b h = rw (le-leb 0x21 b (h .0), le-leb b 0x7e (h .1))
+all-valid : (l : List ℕ) → NameBytes l → every validNameByte l ≡ true
+all-valid l h = index-every validNameByte l 0 (λ i k. good-byte (getD l i 0) (h i k))
 
-printable : (l : List ℕ) → every validNameByte l ≡ true → Printable l
-printable l h i k = byte-range (getD l i 0) (every-index validNameByte l 0 h i k)
-
-all-valid : (l : List ℕ) → Printable l → every validNameByte l ≡ true
-all-valid l h = index-every validNameByte l 0 (λ i k. range-byte (getD l i 0) (h i k))
-
-name-shape : (name : List ℕ) → (validName name ≡ true) ↔ ((1 ≤ length name) × (length name ≤ 64) × Printable name)
+name-shape : (name : List ℕ) → (validName name ≡ true) ↔ ((1 ≤ length name) × (length name ≤ 64) × NameBytes name)
 unfolding validName
 name-shape name = (
-  λ h. let v = valid-name name h in (v .not-empty, v .short, printable name (v .bytes)),
+  λ h. let v = valid-name name h in (v .not-empty, v .short, all-good name (v .bytes)),
   λ h. rw (le-leb 1 (length name) (h .0), le-leb (length name) 64 (h .1)) (all-valid name (h .2)),
 )
 
-prefix-shape : (prefix : List ℕ) → (validPrefix prefix ≡ true) ↔ ((length prefix ≤ 64) × Printable prefix)
+prefix-shape : (prefix : List ℕ) → (validPrefix prefix ≡ true) ↔ ((length prefix ≤ 64) × NameBytes prefix)
 unfolding validPrefix
 prefix-shape prefix = (
-  λ h. let p = both (leb (length prefix) 64) (every validNameByte prefix) h in (leb-true (length prefix) 64 (p .0), printable prefix (p .1)),
+  λ h. let p = both (leb (length prefix) 64) (every validNameByte prefix) h in (leb-true (length prefix) 64 (p .0), all-good prefix (p .1)),
   λ h. rw (le-leb (length prefix) 64 (h .0)) (all-valid prefix (h .1)),
 )
 
@@ -372,6 +364,7 @@ held-shape o = (not-some o, λ h. rw h)
 
 pub shapes-hold : Shapes
 shapes-hold = record {
+  of-name-byte = byte-shape;
   of-name = name-shape;
   of-prefix = prefix-shape;
   of-flags = flag-shape;

@@ -40,11 +40,16 @@ readAt offset =
 
 abbrev pub edges : List (List ℕ × List ℕ)
 edges =
-    -- a name of 64 bytes: good; 0 or 65: 3; a byte 0x20: 3
+    -- a name of 64 bytes: good; 0 or 65: 3; by 02, No. 1, a byte 0x20, 0x80 or 0xff: good; 0x1f or 0x7f: 3; one space: good
     (setStatus (replicate 64 0x61) 0 [], 0 ∷ [])
     ∷ (setStatus [] 0 [], 3 ∷ [])
     ∷ (setStatus (replicate 65 0x61) 0 [], 3 ∷ [])
-    ∷ (setStatus (0x61 ∷ 0x20 ∷ []) 0 [], 3 ∷ [])
+    ∷ (setStatus (0x61 ∷ 0x20 ∷ []) 0 [], 0 ∷ [])
+    ∷ (setStatus (0x61 ∷ 0x1f ∷ []) 0 [], 3 ∷ [])
+    ∷ (setStatus (0x61 ∷ 0x7f ∷ []) 0 [], 3 ∷ [])
+    ∷ (setStatus (0x61 ∷ 0x80 ∷ []) 0 [], 0 ∷ [])
+    ∷ (setStatus (0x61 ∷ 0xff ∷ []) 0 [], 0 ∷ [])
+    ∷ (setStatus (0x20 ∷ []) 0 [], 0 ∷ [])
     -- data of 480: record length 516, bytes 04 02; 481: 5
     ∷ (take 2 (drop 2 (kvAfter (replicate 480 0))), 0x04 ∷ 0x02 ∷ [])
     ∷ (setStatus nameA 0 (replicate 480 0), 0 ∷ [])

@@ -1,7 +1,7 @@
 -- Names.
---   validNameByte, validName, validPrefix   01: "A good name has 1 to 64 bytes, each 0x21 to 0x7E"; a walk's prefix
+--   validNameByte, validName, validPrefix   01: "A good name has 1 to 64 bytes", and which bytes 02, No. 1, lets it hold; a walk's prefix
 --   hexDigits, keyName                      the name that a key is kept under
-use mathlib.Core.Bool.{Bool, cond, _&&_}
+use mathlib.Core.Bool.{Bool, cond, _&&_, _||_}
 use mathlib.Core.List.{List, [], _∷_, _++_}
 use Prim.Native.Nat.{ℕ, zero, suc, _+_, _/_, _%_}
 use lib.Dec.{leb, ltb}
@@ -11,9 +11,9 @@ use Rattle.buffers.specs.Bytes.{every}
 abbrev pub Name : Type 0
 Name = List ℕ
 
--- a byte of a good name
+-- 01: "each 0x21 to 0x7E"; 02, No. 1: "also [..] the byte 0x20 and bytes 0x80 to 0xFF"
 unfoldable pub validNameByte : ℕ → Bool
-validNameByte b = leb 0x21 b && leb b 0x7e
+validNameByte b = (leb 0x20 b && leb b 0x7e) || (leb 0x80 b && leb b 0xff)
 
 -- 01: "good name"
 unfoldable pub validName : Name → Bool

@@ -1,5 +1,5 @@
 -- 01's tests of one thing, and the parts that are read from it, from its layout in bytes.
---   Printable, FlagShape, Multiple   the bytes of a good name, the flags, a right length
+--   NameBytes, FlagShape, Multiple   the bytes of a good name, the flags, a right length
 --   WellFormed, RecordShape          a record that is well formed, and what is read from it
 --   UsedPlace, UsedEntry, SlotShape  a used slot, and what is read from it
 --   NoDamage, SlotHeld, LookupShape  an area without damage; what it holds for a name
@@ -14,7 +14,7 @@ use lib.ListN.{length, getD, take, drop}
 use Rattle.cipher.specs.Cmac.{cmac}
 use Rattle.cipher.specs.Kdf.{derivedKey, authPrefix}
 use Rattle.buffers.specs.Bytes.{isSome, zeros}
-use Rattle.spec.specs.Name.{Name, validName, validPrefix}
+use Rattle.spec.specs.Name.{Name, validNameByte, validName, validPrefix}
 use Rattle.spec.specs.Record.{writeOnce, requireConfidentiality, requireIntegrity, requireReplayProtection, validFlags}
 use Rattle.spec.specs.Record.{dataSizeOf, flagsOf, ivOf, metadataOf, storedDataOf, tagOf, wellFormed, macOk}
 use Rattle.spec.specs.Area.{Format, kvFormat, rbpFormat, slotFree, slotPayload, slotUsed, slotHolder, slotCount, sized, intact, slotOf, lookup}
@@ -25,9 +25,18 @@ use Rattle.spec.specs.Decisions.{tagMatches}
 abbrev pub AreBytes : List ℕ → Type 0
 AreBytes l = (i : ℕ) → getD l i 0 < 256
 
--- "each 0x21 to 0x7E"
-abbrev pub Printable : List ℕ → Type 0
-Printable l = (i : ℕ) → i < length l → (0x21 ≤ getD l i 0) × (getD l i 0 ≤ 0x7e)
+-- 02, No. 1: "control bytes and 0x7F stay out"
+abbrev pub NameByte : ℕ → Type 0
+NameByte b = (0x20 ≤ b) × (b ≢ 0x7f) × (b ≤ 0xff)
+
+abbrev pub NameBytes : List ℕ → Type 0
+NameBytes l = (i : ℕ) → i < length l → NameByte (getD l i 0)
+
+-- a byte that a name may hold; 0x00, which fills a slot's name, and 0x14, which begins the metadata behind it in the CMAC's message, are none
+pub record NameByteShape : Type 0 where
+  pub exact : (b : ℕ) → (validNameByte b ≡ true) ↔ NameByte b
+  pub not-fill : validNameByte 0x00 ≡ false
+  pub not-metadata : validNameByte 0x14 ≡ false
 
 -- good flags are 0 to 7 and 12 to 15
 abbrev pub GoodFlags : ℕ → Type 0
@@ -121,8 +130,9 @@ pub record LookupShape (F : Format) (area name : List ℕ) : Type 0 where
 
 pub record Shapes : Type 0 where
   -- "A good name has 1 to 64 bytes", a prefix 0 to 64
-  pub of-name : (name : Name) → (validName name ≡ true) ↔ ((1 ≤ length name) × (length name ≤ 64) × Printable name)
-  pub of-prefix : (prefix : List ℕ) → (validPrefix prefix ≡ true) ↔ ((length prefix ≤ 64) × Printable prefix)
+  pub of-name-byte : NameByteShape
+  pub of-name : (name : Name) → (validName name ≡ true) ↔ ((1 ≤ length name) × (length name ≤ 64) × NameBytes name)
+  pub of-prefix : (prefix : List ℕ) → (validPrefix prefix ≡ true) ↔ ((length prefix ≤ 64) × NameBytes prefix)
   pub of-flags : (flags : ℕ) → FlagShape flags
   -- "1 to 64 places of 584 bytes", "1 to 64 entries of 82 bytes"
   pub of-kv-length : (area : List ℕ) → (sized kvFormat area ≡ true) ↔ Multiple 584 area

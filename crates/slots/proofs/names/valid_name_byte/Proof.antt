@@ -1,16 +1,28 @@
--- `slots::names::valid_name_byte`: the one place of the code that knows the rule for a name's byte.
-use borrow.Author.Tests.{lt-leb, le-leb}
+-- `slots::names::valid_name_byte`: the one place of the code that knows the rule for a name's byte. What it says of a byte, 0x20 or more and not 0x7f,
+-- is what the law says of a number, but for the bound that a byte keeps.
+use mathlib.Core.Path.{sym}
+use native.Mathlib.Omega.{arith}
+use borrow.Author.Tests.{eqb-true, eqb-false}
+use lib.Dec.{eqb}
+use Rattle.buffers.proofs.Split.{split}
 use Rattle.spec.specs.Name.{validNameByte}
+use Rattle.spec.proofs.Name.{byte-good, good-byte}
 use Rattle.slots.proofs.names.valid_name_byte.Statement.{statement}
 use Rattle.slots.proofs.names.valid_name_byte.Tie as tie
 
 returns : tie.Need-returns
-unfolding validNameByte
-returns c = rw (lt-leb 0x21 (c .before .args .b) (c .if1 .taken))
+returns c =
+    let b = c .before .args .b in
+    let low = c .if1 .taken in
+    split (validNameByte b) (λ e. let g = byte-good b e .0 in absurd (omega arith)) (λ e. sym e)
 
 returns-2 : tie.Need-returns-2
-unfolding validNameByte
-returns-2 c = rw (le-leb 0x21 (c .before .args .b) (c .if1 .left))
+returns-2 c =
+    let b = c .before .args .b in
+    let fits = c .before .fits .b .fits in
+    split (eqb b 0x7f)
+    (λ e. rw e (split (validNameByte b) (λ v. absurd (byte-good b v .1 (eqb-true b 0x7f e))) (λ v. sym v)))
+    (λ e. rw e (sym (good-byte b (c .if1 .left, eqb-false b 0x7f e, omega arith))))
 
 pub valid-name-byte-spec : {M : Type 1} → statement M
 valid-name-byte-spec = tie.close (tie.spec returns returns-2)
