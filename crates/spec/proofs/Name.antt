@@ -1,7 +1,7 @@
 -- Laws of names. The definition of a valid byte is opened by its two laws here, and elsewhere only where something is computed.
 use mathlib.Core.Path.{_≡_, refl, _∙_}
-use mathlib.Core.Bool.{true, _&&_}
-use mathlib.Core.Logic.{_↔_}
+use mathlib.Core.Bool.{Bool, true, false, _&&_, _||_}
+use mathlib.Core.Logic.{_⊎_, inl, inr, ⊎-elim}
 use mathlib.Core.List.{List, [], _∷_, _++_}
 use Prim.Native.Nat.{ℕ, zero, suc, _+_, _/_, _%_, _≤_, _<_}
 use native.Mathlib.Omega.{arith}
@@ -11,36 +11,50 @@ use lib.ListN.{length, length-append}
 use Rattle.buffers.specs.Bytes.{every}
 use Rattle.spec.specs.Name.{Name, validNameByte, validName, hexDigit, hexDigits, keyName}
 use Rattle.spec.specs.Shapes.{NameByte, NameByteShape}
-use Rattle.buffers.proofs.Split.{split, both}
+use Rattle.buffers.proofs.Split.{split, both, neither}
 
 -- ---- a byte
 
+fill-out : validNameByte 0x00 ≡ false
+unfolding validNameByte
+fill-out = refl
+
+metadata-out : validNameByte 0x14 ≡ false
+unfolding validNameByte
+metadata-out = refl
+
+within : (low high b : ℕ) → (leb low b && leb b high) ≡ true → (low ≤ b) × (b ≤ high)
+within low high b h = let p = both (leb low b) (leb b high) h in (leb-true low b (p .0), leb-true b high (p .1))
+
+outside : (low high b : ℕ) → (leb low b && leb b high) ≡ false → (b < low) ⊎ (high < b)
+outside low high b h = split (leb low b) (λ e. inr (leb-false b high (rw e at h))) (λ e. inl (leb-false low b e))
+
+either : (x y : Bool) → (x || y) ≡ true → (x ≡ true) ⊎ (y ≡ true)
+either true y h = inl refl
+either false y h = inr h
+
 pub byte-good : (b : ℕ) → validNameByte b ≡ true → NameByte b
 unfolding validNameByte
-byte-good b h = split (leb 0x20 b && leb b 0x7e)
-    (λ e.
-    let p = both (leb 0x20 b) (leb b 0x7e) e in
-    let u = leb-true 0x20 b (p .0) in
-    let v = leb-true b 0x7e (p .1) in
-    (u, λ k. omega arith, omega arith))
-    (λ e.
-    let p = both (leb 0x80 b) (leb b 0xff) (rw e at h) in
-    let u = leb-true 0x80 b (p .0) in
-    (omega arith, λ k. omega arith, leb-true b 0xff (p .1)))
+byte-good b h =
+    ⊎-elim
+    (λ e. let r = within 0x20 0x7e b e in let low = r .0 in let high = r .1 in (low, λ k. omega arith, omega arith))
+    (λ e. let r = within 0x80 0xff b e in let low = r .0 in let high = r .1 in (omega arith, λ k. omega arith, high))
+    (either (leb 0x20 b && leb b 0x7e) (leb 0x80 b && leb b 0xff) h)
 
 pub good-byte : (b : ℕ) → NameByte b → validNameByte b ≡ true
 unfolding validNameByte
-good-byte b h = split (leb b 0x7e)
-    (λ e. rw (le-leb 0x20 b (h .0), e))
+good-byte b h = split (validNameByte b) (λ e. e)
     (λ e.
-    let u = leb-false b 0x7e e in
-    split (leb 0x80 b)
-    (λ k. rw (le-leb 0x20 b (h .0), e, k, le-leb b 0xff (h .2)))
-    (λ k. let v = leb-false 0x80 b k in absurd (h .1 (omega arith))))
+    let p = neither (leb 0x20 b && leb b 0x7e) (leb 0x80 b && leb b 0xff) e in
+    let low = h .0 in
+    let high = h .2 in
+    ⊎-elim
+    (λ u. absurd (omega arith))
+    (λ u. ⊎-elim (λ v. absurd (h .1 (omega arith))) (λ v. absurd (omega arith)) (outside 0x80 0xff b (p .1)))
+    (outside 0x20 0x7e b (p .0)))
 
 pub byte-shape : NameByteShape
-unfolding validNameByte
-byte-shape = record { exact = λ b. (byte-good b, good-byte b); not-fill = refl; not-metadata = refl }
+byte-shape = record { exact = λ b. (byte-good b, good-byte b); not-fill = fill-out; not-metadata = metadata-out }
 
 -- ---- a name
 
