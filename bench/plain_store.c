@@ -35,7 +35,7 @@ static int good_name(const uint8_t *name, size_t len)
         return 0;
     }
     for (i = 0; i < len; i++) {
-        if (name[i] < 0x21 || 0x7e < name[i]) {
+        if (name[i] < 0x20 || name[i] == 0x7f) {
             return 0;
         }
     }

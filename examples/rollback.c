@@ -94,6 +94,19 @@ static void expect_refusal(const uint8_t *some_card, const char *name, securesto
     check(!read_protected(some_card, name, text, sizeof text, &status) && status == want, securestore_status_text(want));
 }
 
+/* A name's bytes come from the card and may be any but control bytes and 0x7f: what is not ASCII is shown as \xNN, not sent to the terminal. */
+static void print_name(const uint8_t *name, size_t name_len)
+{
+    size_t i;
+    for (i = 0; i < name_len; i++) {
+        if (name[i] < 0x7f) {
+            putchar(name[i]);
+        } else {
+            printf("\\x%02x", name[i]);
+        }
+    }
+}
+
 static void list_names(void)
 {
     uint8_t name[SECURESTORE_NAME_MAX];
@@ -101,7 +114,9 @@ static void list_names(void)
     securestore_status status;
     while ((status = securestore_iterator_next(card, sizeof card, chip, sizeof chip, (const uint8_t *)"player/", 7, slot, name, sizeof name, &name_len,
                                                &slot)) == SECURESTORE_OK) {
-        printf("  slot %u: %.*s\n", (unsigned)slot - 1, (int)name_len, (const char *)name);
+        printf("  slot %u: ", (unsigned)slot - 1);
+        print_name(name, name_len);
+        printf("\n");
         found++;
     }
     check(status == SECURESTORE_ERR_NOT_FOUND && found == 2, "the card has two players");

@@ -18,7 +18,8 @@
  * Names. A name has 1 to 64 bytes, each 0x20 to 0x7e or 0x80 to 0xff. Any other byte, that is a control byte (0x00 to 0x1f) or 0x7f, is refused with 3 in
  * a name or prefix that is given, and is damage (2) in one that stands on card or chip. No encoding is asked for and nothing is made alike: spaces count,
  * upper and lower case differ, and an accented letter in UTF-8 and in Latin-1 gives two names. So names are bytes, with no terminator: whoever shows them
- * must expect any of these bytes, also broken UTF-8. Versions before 0.2.0 knew 0x21 to 0x7e alone; to them a card or chip with another name is damaged.
+ * must expect any of these bytes, also broken UTF-8 and 0x80 to 0x9f, which some terminals obey (examples/rollback.c shows what is not ASCII as \xNN).
+ * Versions before 0.2.0 knew 0x21 to 0x7e alone. To a box with one of them a card or chip with another name is damaged: give all boxes 0.2.0 first.
  *
  * Protection is what the stored record's flags ask for, and these flags are on the card. A get of a record without integrity checks no CMAC, and one of
  * a record without replay protection does not ask the chip, also where the chip holds the name: whoever can write the card can put such a record

@@ -198,29 +198,47 @@ static void test_iterator_next(void)
     expect(name_len == 0 && next_slot == 0, "iterator_next: a refusal gives zeros");
 }
 
-/* What the header says of names: each byte alone as a name, as a prefix and in a slot; names as players type them, all of them unlike. */
-static void test_names(void)
+/* What the header says of a name's bytes: each alone as a name of every call, as a prefix and in a slot of card and chip. */
+static void test_name_bytes(void)
+{
+    unsigned byte, given = 0, on_card = 0, in_chip = 0;
+    for (byte = 0; byte < 256; byte++) {
+        const int out = byte < 0x20 || byte == 0x7f;
+        const securestore_status absent = out ? SECURESTORE_ERR_INVALID_NAME : SECURESTORE_ERR_NOT_FOUND;
+        const uint8_t name[1] = {(uint8_t)byte};
+        uint8_t one[SECURESTORE_KV_SLOT_SIZE] = {0}, entry[SECURESTORE_RBP_SLOT_SIZE] = {0}, buf[64];
+        uint32_t data_size, flags;
+        size_t count, name_len, next_slot;
+        given += securestore_iterator_next(one, sizeof one, entry, sizeof entry, name, 1, 0, buf, sizeof buf, &name_len, &next_slot) != absent;
+        given += securestore_get(one, sizeof one, entry, sizeof entry, KEY, sizeof KEY, name, 1, 0, buf, sizeof buf, &count) != absent;
+        given += securestore_get_info(one, sizeof one, entry, sizeof entry, KEY, sizeof KEY, name, 1, &data_size, &flags) != absent;
+        given += securestore_remove(one, sizeof one, entry, sizeof entry, name, 1) != absent;
+        given += securestore_set(one, sizeof one, entry, sizeof entry, KEY, sizeof KEY, name, 1, 0, IV, sizeof IV, LINE, 4)
+                 != (out ? SECURESTORE_ERR_INVALID_NAME : SECURESTORE_OK);
+        memset(one, 0, sizeof one);
+        on_card += securestore_set(one, sizeof one, entry, sizeof entry, KEY, sizeof KEY, NAME, 1, 0, IV, sizeof IV, LINE, 4) != SECURESTORE_OK;
+        one[4] = name[0];
+        on_card += securestore_get(one, sizeof one, entry, sizeof entry, KEY, sizeof KEY, NAME, 1, 0, buf, sizeof buf, &count)
+                   != (out ? SECURESTORE_ERR_CORRUPT : byte == 'a' ? SECURESTORE_OK : SECURESTORE_ERR_NOT_FOUND);
+        one[4] = 'a';
+        entry[0] = entry[1] = 1;
+        entry[2] = name[0];
+        in_chip += securestore_get(one, sizeof one, entry, sizeof entry, KEY, sizeof KEY, NAME, 1, 0, buf, sizeof buf, &count)
+                   != (out ? SECURESTORE_ERR_CORRUPT : SECURESTORE_OK);
+    }
+    expect(given == 0, "names: each byte given");
+    expect(on_card == 0, "names: each byte on the card");
+    expect(in_chip == 0, "names: each byte in the chip");
+}
+
+/* Names as players type them, all of them unlike. */
+static void test_typed_names(void)
 {
     static const char *const typed[] = {"Cello 3", "Cello", "Cello ", " Cello", "cello", "Fl\xc3\xb6te", "Fl\xf6te", "Flo\xcc\x88te", "Fl\xc3"};
     enum { TYPED = sizeof typed / sizeof typed[0] };
     uint8_t card[TYPED * SECURESTORE_KV_SLOT_SIZE] = {0}, chip[SECURESTORE_RBP_SLOT_SIZE] = {0}, buf[64], longest[65];
     size_t count, name_len, next_slot;
     unsigned byte, wrong = 0;
-    for (byte = 0; byte < 256; byte++) {
-        const int out = byte < 0x20 || byte == 0x7f;
-        const uint8_t name[1] = {(uint8_t)byte};
-        uint8_t one[SECURESTORE_KV_SLOT_SIZE] = {0}, blank[SECURESTORE_RBP_SLOT_SIZE] = {0};
-        wrong += securestore_iterator_next(one, sizeof one, blank, sizeof blank, name, 1, 0, buf, sizeof buf, &name_len, &next_slot)
-                 != (out ? SECURESTORE_ERR_INVALID_NAME : SECURESTORE_ERR_NOT_FOUND);
-        wrong += securestore_set(one, sizeof one, blank, sizeof blank, KEY, sizeof KEY, name, 1, 0, IV, sizeof IV, LINE, 4)
-                 != (out ? SECURESTORE_ERR_INVALID_NAME : SECURESTORE_OK);
-        memset(one, 0, sizeof one);
-        wrong += securestore_set(one, sizeof one, blank, sizeof blank, KEY, sizeof KEY, NAME, 1, 0, IV, sizeof IV, LINE, 4) != SECURESTORE_OK;
-        one[4] = name[0];
-        wrong += securestore_get(one, sizeof one, blank, sizeof blank, KEY, sizeof KEY, NAME, 1, 0, buf, sizeof buf, &count)
-                 != (out ? SECURESTORE_ERR_CORRUPT : byte == 'a' ? SECURESTORE_OK : SECURESTORE_ERR_NOT_FOUND);
-    }
-    expect(wrong == 0, "names: each byte, given and stored");
     for (byte = 0; byte < TYPED; byte++) {
         const uint8_t data[1] = {(uint8_t)byte};
         wrong += securestore_set(card, sizeof card, chip, sizeof chip, KEY, sizeof KEY, (const uint8_t *)typed[byte], strlen(typed[byte]), 0, IV, sizeof IV,
@@ -228,6 +246,7 @@ static void test_names(void)
                  != SECURESTORE_OK;
     }
     expect(wrong == 0, "names: as they are typed");
+    wrong = 0;
     for (byte = 0; byte < TYPED; byte++) {
         wrong += securestore_get(card, sizeof card, chip, sizeof chip, KEY, sizeof KEY, (const uint8_t *)typed[byte], strlen(typed[byte]), 0, buf, 1, &count)
                      != SECURESTORE_OK
@@ -337,7 +356,8 @@ int main(void)
     test_format_key_file();
     test_parse_key_file();
     test_keys();
-    test_names();
+    test_name_bytes();
+    test_typed_names();
     printf("%u passed, %u failed\n", passed, failed);
     return failed != 0;
 }

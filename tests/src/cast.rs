@@ -269,3 +269,32 @@ pub fn fill(rng: &mut Rng, cast: &Cast, card: &mut Card, chip: &mut Chip) {
         chip.put(Entry { name, cmac });
     }
 }
+
+#[cfg(test)]
+mod tests {
+    use super::*;
+    use crate::area::good_name;
+
+    #[test]
+    fn a_cast_has_good_names_of_all_good_bytes_and_no_others() {
+        let mut seen = [false; 256];
+        for seed in 0..2000 {
+            let cast = Cast::new(&mut Rng::part(seed, 0));
+            for name in &cast.names {
+                assert!(good_name(name), "{}", name.escape_ascii());
+                name.iter().for_each(|byte| seen[usize::from(*byte)] = true);
+            }
+        }
+        let missing = (0..=u8::MAX).filter(|byte| !seen[usize::from(*byte)]);
+        let out: Vec<u8> = (0..0x20).chain([0x7f]).collect();
+        assert_eq!(missing.collect::<Vec<u8>>(), out);
+    }
+
+    #[test]
+    fn a_hostile_name_is_bad() {
+        for seed in 0..2000 {
+            let name = hostile_name(&mut Rng::part(seed, 0));
+            assert!(!good_name(&name), "{}", name.escape_ascii());
+        }
+    }
+}

@@ -209,7 +209,7 @@ fn fill_names(n: usize, args: Args, env: Env, mem: &mut [u8]) -> u64 {
     done
 }
 
-// How many of n sets are done. Only 94 bytes make a good name behind "n".
+// How many of n sets are done. The names go up to "n~", the last before the byte 0x7f, which no name has.
 pub fn fill(args: Args, env: Env, mem: &mut [u8]) -> Answer {
     let n = args.values[0];
     if 94 < n {

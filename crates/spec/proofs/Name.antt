@@ -1,4 +1,4 @@
--- Laws of names. The definition of a valid byte is opened by its two laws here, and elsewhere only where something is computed.
+-- Laws of names. The definition of a valid byte is opened by its laws here, and elsewhere only where something is computed.
 use mathlib.Core.Path.{_≡_, refl, _∙_}
 use mathlib.Core.Bool.{Bool, true, false, _&&_, _||_}
 use mathlib.Core.Logic.{_⊎_, inl, inr, ⊎-elim}

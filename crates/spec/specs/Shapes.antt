@@ -129,8 +129,8 @@ pub record LookupShape (F : Format) (area name : List ℕ) : Type 0 where
   pub none-there : slotOf F area name ≡ none → lookup F area name ≡ none
 
 pub record Shapes : Type 0 where
-  -- "A good name has 1 to 64 bytes", a prefix 0 to 64
   pub of-name-byte : NameByteShape
+  -- "A good name has 1 to 64 bytes", a prefix 0 to 64
   pub of-name : (name : Name) → (validName name ≡ true) ↔ ((1 ≤ length name) × (length name ≤ 64) × NameBytes name)
   pub of-prefix : (prefix : List ℕ) → (validPrefix prefix ≡ true) ↔ ((length prefix ≤ 64) × NameBytes prefix)
   pub of-flags : (flags : ℕ) → FlagShape flags
