@@ -1,6 +1,6 @@
 -- 01, "Edges to try", those marked P, and what 02, No. 1, makes of the one for 0x20: one table of what the definitions give and what the papers say, and
--- one statement, that the two columns are equal (`edges`, `Edges`). Beside it a place and an entry in numerals (`Numerals`), since in 01's "whole" several fields are alike.
--- Calls are made on one blank slot of each kind, under the all-zero device key.
+-- one statement, that the two columns are equal (`edges`, `Edges`). Beside it a place and an entry in numerals (`Numerals`), since in 01's "whole"
+-- several fields are alike. Calls are made on one blank slot of each kind, under the all-zero device key.
 use mathlib.Core.Path.{_≡_}
 use mathlib.Core.List.{List, [], _∷_, _++_, map}
 use mathlib.Core.Option.{some}
