@@ -1,8 +1,9 @@
 /* securestore: named records over a removable card and a small protected chip. Link libsecurestore.a, which needs memcpy and memset and nothing else.
  *
  * The library keeps nothing between calls, allocates nothing and does no input or output. The caller reads the card (kv) and the chip (rbp) into two
- * buffers, lends them to a call, and writes both back, the chip first, after a set, save_key, remove or reset that answered SECURESTORE_OK. A call's
- * stack was measured at 6.3 kB at most (save_key, x86-64); what a call leaves there, plaintext and derived keys among it, is not wiped.
+ * buffers, lends them to a call, and writes both back, the chip first, after a set, set_finalize, save_key, remove or reset that answered
+ * SECURESTORE_OK. A call's stack was measured at 6.3 kB at most (save_key, x86-64); what a call leaves there, plaintext and derived keys among it, is not
+ * wiped.
  *
  * Pointers. The library is proved for lent memory, and what makes memory lent is the caller's part:
  * - no pointer is null, also where its length is 0;
@@ -13,7 +14,8 @@
  * Nothing else is asked: any contents, any smaller or larger buffer and any number has an answer.
  *
  * Answers. A store call returns one of the numbers below, that of the first test that fails in the order given at the call. A refusal changes no lent
- * buffer and writes 0 through every out-number (count, data_size, flags, name_len, next_slot, a key file's fields).
+ * buffer and writes 0 through every out-number (count, data_size, flags, name_len, next_slot, a key file's fields). One thing besides is written by a
+ * refusal: a refused set_start makes its handle all zero.
  *
  * Names. A name has 1 to 64 bytes, each 0x20 to 0x7e or 0x80 to 0xff. Any other byte, that is a control byte (0x00 to 0x1f) or 0x7f, is refused with 3 in
  * a name or prefix that is given, and is damage (2) in one that stands on card or chip. No encoding is asked for and nothing is made alike: spaces count,
@@ -24,6 +26,21 @@
  * Protection is what the stored record's flags ask for, and these flags are on the card. A get of a record without integrity checks no CMAC, and one of
  * a record without replay protection does not ask the chip, also where the chip holds the name: whoever can write the card can put such a record
  * there. A caller that relies on protection asks securestore_get_info on the same buffers for the flags and compares them before it uses the data.
+ *
+ * Records in chunks (incremental set). A record that arrives in pieces, over the air say, is set by three calls: set_start makes a handle of name, flags,
+ * IV and declared size, set_add_data puts each chunk behind the one before it, and set_finalize stores what is held. However the data were divided, it
+ * answers and stores what one set of them would, on card and chip as they then are; what is said here of a set holds of a finalize.
+ * - Handle (88 bytes) and staging buffer (480 bytes) are the caller's, a pair for each record that is on its way. The library keeps no pointer to them and
+ *   there is nothing to close: a record that never comes to its end is given up by forgetting both. Power lost before the finalize harms neither medium.
+ * - set_start and set_add_data are lent neither card nor chip, and judge neither the name's bytes nor the flags. That a name is bad or in use, that flags
+ *   are bad or differ, that there is no room: only the finalize tells. After a refusal it can be called again once the cause is gone.
+ * - A chunk has no number here. That none is lost, doubled or out of order is for the caller to see, before set_add_data (examples/receive.c).
+ * - Between the calls handle and staging buffer may be changed, and they may hold anything: what stands there at the finalize is what is stored, and a
+ *   handle whose sizes do not fit is answered with 19. Whoever can write there decides name, flags and data.
+ * - The staging buffer holds the data in plaintext, for a record with confidentiality too, and the handle holds name and IV. No call wipes them: the
+ *   caller does, when the record is stored or given up.
+ * - A finalize does not use the handle up: another is another set of the same bytes, so that of a write-once record answers 7. With confidentiality its
+ *   IV is for these bytes alone: before others are finalized, start again with a new IV. An all-zero handle is never stored: its name is empty, 3.
  *
  * Power. Writing card and chip back is two writes, which the library cannot make atomic; a journal of both buffers can. Without replay protection a set
  * or remove changes the card alone. With it, power lost between the two writes leaves one of two states. In both, get and get_info answer 12 and reset 0.
@@ -55,19 +72,19 @@
 
 /* Version of header and library. */
 #define SECURESTORE_VERSION_MAJOR 0
-#define SECURESTORE_VERSION_MINOR 2
+#define SECURESTORE_VERSION_MINOR 3
 #define SECURESTORE_VERSION_PATCH 0
-#define SECURESTORE_VERSION_STRING "0.2.0"
+#define SECURESTORE_VERSION_STRING "0.3.0"
 
 /* What the store's calls return: one of these numbers. */
 typedef uint32_t securestore_status;
 
 #define SECURESTORE_OK 0u
-#define SECURESTORE_ERR_LENGTH 1u         /* card, chip, device key, IV, name buffer or key buffer of a wrong length */
+#define SECURESTORE_ERR_LENGTH 1u         /* card, chip, device key, IV, name buffer, key buffer or staging buffer of a wrong length */
 #define SECURESTORE_ERR_CORRUPT 2u        /* card or chip is damaged: one bad slot is enough; a reset recovers, or a zeroed card */
 #define SECURESTORE_ERR_INVALID_NAME 3u   /* bad name, prefix or key identifier */
 #define SECURESTORE_ERR_INVALID_FLAGS 4u  /* unknown bits, or replay protection without integrity */
-#define SECURESTORE_ERR_DATA_SIZE 5u      /* more data than a record holds */
+#define SECURESTORE_ERR_DATA_SIZE 5u      /* more data than a record holds, given or declared */
 #define SECURESTORE_ERR_NOT_FOUND 6u      /* the card does not hold the name, nor, where it is to be read, the chip; or no name from there on has the prefix */
 #define SECURESTORE_ERR_ALREADY_EXISTS 7u /* the old or the new flags say write once, and there is something under the name */
 #define SECURESTORE_ERR_INVALID_RECORD 8u /* the stored record is not well formed */
@@ -77,6 +94,7 @@ typedef uint32_t securestore_status;
 #define SECURESTORE_ERR_ROLLBACK 12u      /* the chip knows another record of this name, or none, or the card has lost it: an old or changed card */
 #define SECURESTORE_ERR_INVALID_KEY_FILE 13u /* not a key file, or more material than one holds */
 #define SECURESTORE_ERR_OFFSET 14u        /* the offset lies beyond the data */
+#define SECURESTORE_ERR_TRANSFER_SIZE 19u /* a chunk past the declared size, a finalize short of it, or a handle whose sizes do not fit */
 
 /* Flags of a record. */
 #define SECURESTORE_WRITE_ONCE 1u
@@ -99,6 +117,16 @@ typedef uint32_t securestore_status;
 #define SECURESTORE_KEY_FILE_MAX 480u /* a header, then the material */
 #define SECURESTORE_KEY_FILE_HEADER 36u /* where the material begins */
 #define SECURESTORE_KEY_MATERIAL_MAX 444u
+#define SECURESTORE_STAGING_SIZE 480u /* not a byte more or less */
+#define SECURESTORE_SET_HANDLE_SIZE 88u
+
+/* Where the fields of an incremental set's handle begin. Numbers are of 4 bytes, little-endian; the handle needs no alignment. */
+#define SECURESTORE_SET_HANDLE_NAME_AT 0u             /* 64 bytes: the name, then zeros */
+#define SECURESTORE_SET_HANDLE_NAME_LEN_AT 64u        /* 4: the name's length, at most 64 */
+#define SECURESTORE_SET_HANDLE_FLAGS_AT 68u           /* 4 */
+#define SECURESTORE_SET_HANDLE_IV_AT 72u              /* 8 bytes, as given */
+#define SECURESTORE_SET_HANDLE_FINAL_DATA_SIZE_AT 80u /* 4: the declared size, at most 480 */
+#define SECURESTORE_SET_HANDLE_COUNT_AT 84u           /* 4: how many bytes are held, at most the declared size */
 
 #ifdef __cplusplus
 extern "C" {
@@ -138,6 +166,8 @@ static inline const char *securestore_status_text(securestore_status status)
         return "ERR_INVALID_KEY_FILE: not a key file, or too much key material";
     case SECURESTORE_ERR_OFFSET:
         return "ERR_OFFSET: the offset lies beyond the data";
+    case SECURESTORE_ERR_TRANSFER_SIZE:
+        return "ERR_TRANSFER_SIZE: chunks and declared size do not fit, or the handle is broken";
     default:
         return "unknown status";
     }
@@ -179,6 +209,28 @@ securestore_status securestore_reset(uint8_t *kv, size_t kv_len, uint8_t *rbp, s
 securestore_status securestore_iterator_next(const uint8_t *kv, size_t kv_len, const uint8_t *rbp, size_t rbp_len, const uint8_t *prefix,
                                              size_t prefix_len, size_t start_slot, uint8_t *name_buf, size_t name_buf_len, size_t *name_len,
                                              size_t *next_slot);
+
+/* A record in chunks: see Records in chunks above. */
+
+/* Starts an incremental set: the handle holds name, flags, IV and declared size (final_data_size), and a count of 0. All of its 88 bytes are written,
+ * whatever they were, so name and iv may not lie in them; a refusal makes them all zero. An empty name, its bytes and the flags are not judged here but by
+ * the finalize. iv must be new for every record with confidentiality under one device key.
+ * Tests: 1 IV not of 8, 3 name over 64 bytes, 5 declared size over 480. */
+securestore_status securestore_set_start(const uint8_t *name, size_t name_len, uint32_t flags, const uint8_t *iv, size_t iv_len, size_t final_data_size,
+                                         uint8_t handle[SECURESTORE_SET_HANDLE_SIZE]);
+
+/* Puts a chunk into the staging buffer, straight behind the bytes that are held, and adds its length to the handle's count; the rest of both is as
+ * before. An empty chunk is done. The chunk may overlap neither the staging buffer nor the handle, nor these two each other.
+ * Tests: 1 staging_len not 480; 19 handle with a name length over 64, a declared size over 480 or a count past it; 19 chunk past the declared size. */
+securestore_status securestore_set_add_data(uint8_t handle[SECURESTORE_SET_HANDLE_SIZE], uint8_t *staging, size_t staging_len, const uint8_t *chunk,
+                                            size_t chunk_len);
+
+/* Stores the bytes that are held, the staging buffer's first count bytes: a set of them with the handle's name, flags and IV, on card and chip as they
+ * are now, which with replay protection must both reach their media. Handle and staging buffer are read and not written.
+ * Tests: 1 lengths (card, chip, key of 16, staging_len of 480); 19 handle as above; 19 count short of the declared size; then those of a set from 2 on.
+ * 5 does not occur. */
+securestore_status securestore_set_finalize(uint8_t *kv, size_t kv_len, uint8_t *rbp, size_t rbp_len, const uint8_t *device_key, size_t device_key_len,
+                                            const uint8_t handle[SECURESTORE_SET_HANDLE_SIZE], const uint8_t *staging, size_t staging_len);
 
 /* PSA key files. The five attributes are carried and not judged. */
 

@@ -48,14 +48,15 @@ static void test_status_text(void)
                 {SECURESTORE_ERR_AUTHENTICATION, 11, "ERR_AUTHENTICATION: "},
                 {SECURESTORE_ERR_ROLLBACK, 12, "ERR_ROLLBACK: "},
                 {SECURESTORE_ERR_INVALID_KEY_FILE, 13, "ERR_INVALID_KEY_FILE: "},
-                {SECURESTORE_ERR_OFFSET, 14, "ERR_OFFSET: "}};
-    static const securestore_status unknown[] = {15, 16, 255, 256, 0x80000000u, 0xffffffffu};
+                {SECURESTORE_ERR_OFFSET, 14, "ERR_OFFSET: "},
+                {SECURESTORE_ERR_TRANSFER_SIZE, 19, "ERR_TRANSFER_SIZE: "}};
+    static const securestore_status unknown[] = {15, 16, 17, 18, 20, 255, 256, 0x80000000u, 0xffffffffu};
     size_t i;
     expect(sizeof(securestore_status) == 4 && (securestore_status)-1 == 0xffffffffu, "status: a uint32_t");
     for (i = 0; i < sizeof rows / sizeof rows[0]; i++) {
         const char *text = securestore_status_text(rows[i].status);
         size_t len = strlen(rows[i].name);
-        expect(rows[i].status == rows[i].number && rows[i].number == i, "status: the constant's number");
+        expect(rows[i].status == rows[i].number && (i == 0 || rows[i].number > rows[i - 1].number), "status: the constant's number");
         expect(strncmp(text, rows[i].name, len) == 0 && (i == 0) == (text[len] == '\0'), rows[i].name);
     }
     for (i = 0; i < sizeof unknown / sizeof unknown[0]; i++) {
@@ -72,7 +73,7 @@ static void test_version(void)
     char text[64];
     sprintf(text, "%d.%d.%d", SECURESTORE_VERSION_MAJOR, SECURESTORE_VERSION_MINOR, SECURESTORE_VERSION_PATCH);
     expect(strcmp(text, SECURESTORE_VERSION_STRING) == 0, "version: string and numbers agree");
-    expect(strcmp(SECURESTORE_VERSION_STRING, "0.2.0") == 0, "version: 0.2.0");
+    expect(strcmp(SECURESTORE_VERSION_STRING, "0.3.0") == 0, "version: 0.3.0");
 }
 
 static void test_aes(void)
@@ -145,16 +146,34 @@ static void test_whole_slot(void)
 }
 
 /* Encrypted, authenticated and replay protected: the record ends in its CMAC, and so does the chip's slot. */
+static const uint8_t SEALED_TAG[16] = {0x77, 0x4a, 0x89, 0x7a, 0x77, 0x96, 0x53, 0x5c, 0x4f, 0x84, 0x04, 0xf1, 0x56, 0x87, 0x4a, 0x22};
+static const uint8_t *const SEALED_KEY = (const uint8_t *)"the device's key";
+static const uint8_t *const SEALED = (const uint8_t *)"seven players, one night, one old card";
+
 static void test_sealed_slot(void)
 {
-    static const uint8_t tag[16] = {0x77, 0x4a, 0x89, 0x7a, 0x77, 0x96, 0x53, 0x5c, 0x4f, 0x84, 0x04, 0xf1, 0x56, 0x87, 0x4a, 0x22};
-    static const char *data = "seven players, one night, one old card";
     uint8_t slot[SECURESTORE_KV_SLOT_SIZE] = {0}, entry[SECURESTORE_RBP_SLOT_SIZE] = {0};
-    expect(securestore_set(slot, sizeof slot, entry, sizeof entry, (const uint8_t *)"the device's key", 16, PLAYER, sizeof PLAYER, 14, IV, sizeof IV,
-                           (const uint8_t *)data, strlen(data)) == SECURESTORE_OK,
+    expect(securestore_set(slot, sizeof slot, entry, sizeof entry, SEALED_KEY, 16, PLAYER, sizeof PLAYER, 14, IV, sizeof IV, SEALED, 38) == SECURESTORE_OK,
            "set: sealed slot");
-    expect(memcmp(slot + 68 + 20 + strlen(data), tag, 16) == 0, "set: the record's CMAC");
-    expect(memcmp(entry + 66, tag, 16) == 0, "set: the chip's copy");
+    expect(memcmp(slot + 68 + 20 + 38, SEALED_TAG, 16) == 0, "set: the record's CMAC");
+    expect(memcmp(entry + 66, SEALED_TAG, 16) == 0, "set: the chip's copy");
+}
+
+/* The same record in two chunks; tests/c/incremental.c tries these calls through and through. */
+static void test_incremental(void)
+{
+    uint8_t slot[SECURESTORE_KV_SLOT_SIZE] = {0}, entry[SECURESTORE_RBP_SLOT_SIZE] = {0}, handle[SECURESTORE_SET_HANDLE_SIZE];
+    uint8_t staging[SECURESTORE_STAGING_SIZE] = {0};
+    expect(securestore_set_start(PLAYER, sizeof PLAYER, 14, IV, sizeof IV, 38, handle) == SECURESTORE_OK, "set_start: status");
+    expect(securestore_set_add_data(handle, staging, sizeof staging, SEALED, 15) == SECURESTORE_OK, "set_add_data: first chunk");
+    expect(securestore_set_finalize(slot, sizeof slot, entry, sizeof entry, SEALED_KEY, 16, handle, staging, sizeof staging) == SECURESTORE_ERR_TRANSFER_SIZE,
+           "set_finalize: too early");
+    expect(securestore_set_add_data(handle, staging, sizeof staging, SEALED + 15, 24) == SECURESTORE_ERR_TRANSFER_SIZE, "set_add_data: a byte too many");
+    expect(securestore_set_add_data(handle, staging, sizeof staging, SEALED + 15, 23) == SECURESTORE_OK, "set_add_data: second chunk");
+    expect(securestore_set_finalize(slot, sizeof slot, entry, sizeof entry, SEALED_KEY, 16, handle, staging, sizeof staging) == SECURESTORE_OK,
+           "set_finalize: status");
+    expect(memcmp(slot + 68 + 20 + 38, SEALED_TAG, 16) == 0, "set_finalize: the record's CMAC");
+    expect(memcmp(entry + 66, SEALED_TAG, 16) == 0, "set_finalize: the chip's copy");
 }
 
 static void test_get(void)
@@ -346,6 +365,7 @@ int main(void)
     test_ctr();
     test_derive();
     test_sealed_slot();
+    test_incremental();
     test_whole_slot();
     expect(set(PLAYER, sizeof PLAYER, 14, LINE, sizeof LINE) == SECURESTORE_OK, "set: encrypted and protected");
     expect(set(PLAYER, sizeof PLAYER, 12, LINE, sizeof LINE) == SECURESTORE_ERR_FLAGS_MISMATCH, "set: other flags");

@@ -1,6 +1,6 @@
 //! Why a call refuses, and what it answers.
 
-/// One test of 01 that can be the first to fail. Several share a number.
+/// One test of 01 or 02 that can be the first to fail. Several share a number.
 #[derive(Clone, Copy, Debug, PartialEq, Eq, PartialOrd, Ord)]
 pub enum Why {
     CardLength,
@@ -9,13 +9,16 @@ pub enum Why {
     IvLength,
     NameBufferLength,
     KeyBufferLength,
+    StagingLength,
     CardDamaged,
     ChipDamaged,
     BadName,
     BadPrefix,
     BadIdentifier,
+    NameTooLong,
     BadFlags,
     DataTooLong,
+    DeclaredTooLong,
     NotFound,
     OldWriteOnce,
     NewWriteOnce,
@@ -31,19 +34,24 @@ pub enum Why {
     MaterialTooLong,
     NotAKeyFile,
     OffsetBeyondData,
+    HandleNameLength,
+    HandleDeclared,
+    HandleCount,
+    ChunkPastDeclared,
+    DataMissing,
 }
 
 impl Why {
-    /// The number of 01's table.
+    /// The number of 01's table, or of 02's request.
     pub fn number(self) -> u32 {
         use Why::*;
         match self {
             CardLength | ChipLength | DeviceKeyLength | IvLength | NameBufferLength
-            | KeyBufferLength => 1,
+            | KeyBufferLength | StagingLength => 1,
             CardDamaged | ChipDamaged => 2,
-            BadName | BadPrefix | BadIdentifier => 3,
+            BadName | BadPrefix | BadIdentifier | NameTooLong => 3,
             BadFlags => 4,
-            DataTooLong => 5,
+            DataTooLong | DeclaredTooLong => 5,
             NotFound => 6,
             OldWriteOnce | NewWriteOnce | WriteOnceOnChip => 7,
             NotWellFormed => 8,
@@ -53,6 +61,7 @@ impl Why {
             GoneFromCard | EntryAbsent | EntryDiffers => 12,
             MaterialTooLong | NotAKeyFile => 13,
             OffsetBeyondData => 14,
+            HandleNameLength | HandleDeclared | HandleCount | ChunkPastDeclared | DataMissing => 19,
         }
     }
 }
@@ -66,4 +75,6 @@ pub struct Answer {
     pub card: Vec<u8>,
     pub chip: Vec<u8>,
     pub output: Vec<u8>,
+    /// Empty for a call that writes none.
+    pub handle: Vec<u8>,
 }

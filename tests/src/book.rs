@@ -6,6 +6,7 @@ use std::collections::BTreeMap;
 use crate::answer::Why;
 use crate::area::{good_name, Card, Chip};
 use crate::calls::{device_key, lent_iv, with_front, Call};
+use crate::handle::{Handle, HandleBytes};
 use crate::record::{Flags, Record, DATA_MAX};
 
 /// A name's contents. The record is kept as bytes, since a start may hold a
@@ -54,7 +55,7 @@ impl Book {
         self.names.keys()
     }
 
-    /// One step: a set, get, info or remove.
+    /// One step: a set, get, info, remove or `set_finalize`.
     pub fn step(&mut self, call: &Call) -> Answer {
         let result = match call {
             Call::Set {
@@ -75,6 +76,11 @@ impl Book {
                 (returned, Vec::new())
             }),
             Call::Remove { name } => self.remove(name),
+            Call::SetFinalize {
+                key,
+                handle,
+                staging,
+            } => self.set_finalize(key, handle, staging),
             _ => panic!("no call of demand 3"),
         };
         let (number, (returned, output)) = match result {
@@ -125,6 +131,19 @@ impl Book {
             line.cmac = Some(record.cmac);
         }
         Ok(([0; 2], Vec::new()))
+    }
+
+    /// The tests of key, staging buffer and handle, then a set of the bytes held.
+    fn set_finalize(
+        &mut self,
+        key: &[u8],
+        handle: &HandleBytes,
+        staging: &[u8],
+    ) -> Result<([u64; 2], Vec<u8>), Why> {
+        device_key(key)?;
+        let handle = Handle::decode(handle);
+        let data = handle.whole(staging)?;
+        self.set(key, handle.name(), handle.flags, &handle.iv, data)
     }
 
     /// The record and its data, after every test but the offset's.

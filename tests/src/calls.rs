@@ -18,6 +18,7 @@ use crate::aes::Block;
 use crate::answer::{Answer, Why};
 use crate::area::{self, good_name, name_bytes, Card, Chip, Entry, Place, Slot};
 use crate::ctr::Iv;
+use crate::handle::{Handle, HandleBytes};
 use crate::keyfile::{key_name, Attributes, KeyFile};
 use crate::record::{Flags, Record, DATA_MAX};
 
@@ -68,12 +69,43 @@ pub enum Call {
         identifier: u32,
         key_buffer: Vec<u8>,
     },
+    SetStart {
+        name: Vec<u8>,
+        flags: u32,
+        iv: Vec<u8>,
+        declared: usize,
+        /// As lent: it is written whole.
+        handle: HandleBytes,
+    },
+    SetAddData {
+        handle: HandleBytes,
+        staging: Vec<u8>,
+        chunk: Vec<u8>,
+    },
+    SetFinalize {
+        key: Vec<u8>,
+        handle: HandleBytes,
+        staging: Vec<u8>,
+    },
 }
 
 impl Call {
-    pub const KINDS: [&'static str; 9] = [
-        "set", "get", "info", "remove", "reset", "walk", "write", "keep", "load",
+    pub const KINDS: [&'static str; 12] = [
+        "set",
+        "get",
+        "info",
+        "remove",
+        "reset",
+        "walk",
+        "write",
+        "keep",
+        "load",
+        "set_start",
+        "set_add_data",
+        "set_finalize",
     ];
+    /// Its place among the kinds.
+    pub const SET_FINALIZE: usize = 11;
 
     pub fn kind(&self) -> usize {
         match self {
@@ -86,6 +118,9 @@ impl Call {
             Call::WriteKeyFile { .. } => 6,
             Call::KeepKey { .. } => 7,
             Call::LoadKey { .. } => 8,
+            Call::SetStart { .. } => 9,
+            Call::SetAddData { .. } => 10,
+            Call::SetFinalize { .. } => Call::SET_FINALIZE,
         }
     }
 
@@ -95,6 +130,15 @@ impl Call {
             Call::Get { output, .. } => output,
             Call::Walk { name_buffer, .. } => name_buffer,
             Call::WriteKeyFile { key_buffer, .. } | Call::LoadKey { key_buffer, .. } => key_buffer,
+            Call::SetAddData { staging, .. } => staging,
+            _ => &[],
+        }
+    }
+
+    /// The handle that the call may write.
+    pub fn handle(&self) -> &[u8] {
+        match self {
+            Call::SetStart { handle, .. } | Call::SetAddData { handle, .. } => handle,
             _ => &[],
         }
     }
@@ -112,6 +156,9 @@ impl Call {
             } => vec![material, key_buffer],
             Call::KeepKey { material, .. } => vec![material],
             Call::LoadKey { key_buffer, .. } => vec![key_buffer],
+            Call::SetStart { name, .. } => vec![name],
+            Call::SetAddData { staging, chunk, .. } => vec![chunk, staging],
+            Call::SetFinalize { staging, .. } => vec![staging],
             Call::Info { .. } | Call::Remove { .. } | Call::Reset => Vec::new(),
         }
     }
@@ -124,16 +171,16 @@ struct Done {
     card: Option<Vec<u8>>,
     chip: Option<Vec<u8>>,
     output: Option<Vec<u8>>,
+    handle: Option<Vec<u8>>,
 }
 
 type Outcome = Result<Done, Why>;
 
-/// The call's answer on this card and chip, and the test that refused it. A
-/// refusal returns zeros and every buffer as lent.
+/// The call's answer on this card and chip, and the test that refused it.
 pub fn answer(card: &[u8], chip: &[u8], call: &Call) -> (Answer, Option<Why>) {
     let (done, why) = match run(card, chip, call) {
         Ok(done) => (done, None),
-        Err(why) => (Done::default(), Some(why)),
+        Err(why) => (refused(call), Some(why)),
     };
     let answer = Answer {
         number: why.map_or(0, Why::number),
@@ -141,8 +188,19 @@ pub fn answer(card: &[u8], chip: &[u8], call: &Call) -> (Answer, Option<Why>) {
         card: done.card.unwrap_or_else(|| card.to_vec()),
         chip: done.chip.unwrap_or_else(|| chip.to_vec()),
         output: done.output.unwrap_or_else(|| call.output().to_vec()),
+        handle: done.handle.unwrap_or_else(|| call.handle().to_vec()),
     };
     (answer, why)
+}
+
+/// A refusal returns zeros and every buffer as lent, but for one: "refused, it
+/// returns an all-zero state".
+fn refused(call: &Call) -> Done {
+    let zeroed = matches!(call, Call::SetStart { .. });
+    Done {
+        handle: zeroed.then(|| Handle::ZERO.to_vec()),
+        ..Done::default()
+    }
 }
 
 fn run(card: &[u8], chip: &[u8], call: &Call) -> Outcome {
@@ -190,6 +248,23 @@ fn run(card: &[u8], chip: &[u8], call: &Call) -> Outcome {
             identifier,
             key_buffer,
         } => load_key(card, chip, key, *identifier, key_buffer),
+        Call::SetStart {
+            name,
+            flags,
+            iv,
+            declared,
+            ..
+        } => set_start(name, *flags, iv, *declared),
+        Call::SetAddData {
+            handle,
+            staging,
+            chunk,
+        } => set_add_data(&Handle::decode(handle), staging, chunk),
+        Call::SetFinalize {
+            key,
+            handle,
+            staging,
+        } => set_finalize(card, chip, key, &Handle::decode(handle), staging),
     }
 }
 
@@ -380,5 +455,176 @@ fn file_at_front(key_buffer: &[u8], file: &[u8]) -> Done {
         returned: [file.len() as u64, 0],
         output: Some(with_front(key_buffer, file)),
         ..Done::default()
+    }
+}
+
+fn set_start(name: &[u8], flags: u32, iv: &[u8], declared: usize) -> Outcome {
+    let handle = Handle::start(name, flags, lent_iv(iv)?, declared)?;
+    Ok(Done {
+        handle: Some(handle.encode().to_vec()),
+        ..Done::default()
+    })
+}
+
+fn set_add_data(handle: &Handle, staging: &[u8], chunk: &[u8]) -> Outcome {
+    let (handle, staging) = handle.add_data(staging, chunk)?;
+    Ok(Done {
+        handle: Some(handle.encode().to_vec()),
+        output: Some(staging),
+        ..Done::default()
+    })
+}
+
+/// Every 1, then 19, then as one set of the bytes held.
+fn set_finalize(card: &[u8], chip: &[u8], key: &[u8], handle: &Handle, staging: &[u8]) -> Outcome {
+    area::test_lengths(card, chip)?;
+    device_key(key)?;
+    let data = handle.whole(staging)?;
+    let name = Some(handle.name());
+    set(card, chip, key, name, handle.flags, &handle.iv, data)
+}
+
+#[cfg(test)]
+mod tests {
+    use super::*;
+    use crate::area::{ENTRY, PLACE};
+
+    const KEY: &[u8] = b"0123456789abcdef";
+
+    fn number(card: &[u8], chip: &[u8], call: &Call) -> u32 {
+        answer(card, chip, call).0.number
+    }
+
+    fn started(name: &[u8], flags: u32, declared: usize) -> HandleBytes {
+        let start = Call::SetStart {
+            name: name.to_vec(),
+            flags,
+            iv: b"iv-iv-iv".to_vec(),
+            declared,
+            handle: [0xee; 88],
+        };
+        let answer = answer(&[], &[], &start).0;
+        assert_eq!(answer.number, 0);
+        answer.handle.try_into().unwrap()
+    }
+
+    fn added(handle: HandleBytes, staging: &[u8], chunk: &[u8]) -> (HandleBytes, Vec<u8>) {
+        let add = Call::SetAddData {
+            handle,
+            staging: staging.to_vec(),
+            chunk: chunk.to_vec(),
+        };
+        let answer = answer(&[], &[], &add).0;
+        assert_eq!(answer.number, 0);
+        (answer.handle.try_into().unwrap(), answer.output)
+    }
+
+    fn finalize(handle: HandleBytes, staging: &[u8]) -> Call {
+        Call::SetFinalize {
+            key: KEY.to_vec(),
+            handle,
+            staging: staging.to_vec(),
+        }
+    }
+
+    /// 01's edge "whole": name "a", flags 0, the data behind the metadata.
+    fn whole(data: &[u8]) -> Vec<u8> {
+        let mut place = vec![1, 1, 36 + data.len() as u8, 0, b'a'];
+        place.resize(68, 0);
+        place.extend([20, 0, 1, 0, data.len() as u8]);
+        place.resize(88, 0);
+        place.extend(data);
+        place.resize(PLACE, 0);
+        place
+    }
+
+    #[test]
+    fn what_is_finalized_is_stored_as_01_says() {
+        let (card, chip) = (vec![0; PLACE], vec![0; ENTRY]);
+        let empty = finalize(started(b"a", 0, 0), &[9; 480]);
+        assert_eq!(answer(&card, &chip, &empty).0.card, whole(b""));
+
+        let (handle, staging) = added(started(b"a", 0, 2), &[9; 480], b"A");
+        assert_eq!(number(&card, &chip, &finalize(handle, &staging)), 19);
+        let (handle, staging) = added(handle, &staging, b"");
+        let (handle, mut staging) = added(handle, &staging, b"B");
+        assert_eq!(staging[..3], [b'A', b'B', 9]);
+        let done = answer(&card, &chip, &finalize(handle, &staging)).0;
+        assert_eq!((done.number, done.card), (0, whole(b"AB")));
+        assert_eq!(
+            (done.chip, done.output, done.handle),
+            (chip.clone(), vec![], vec![])
+        );
+        // The bytes then held count, and the card as it then is.
+        (staging[0], staging[2]) = (b'C', 7);
+        let done = answer(&card, &chip, &finalize(handle, &staging)).0;
+        assert_eq!(done.card, whole(b"CB"));
+        let once = started(b"a", 1, 0);
+        assert_eq!(number(&whole(b"AB"), &chip, &finalize(once, &staging)), 7);
+        let other = finalize(started(b"b", 0, 0), &staging);
+        assert_eq!(number(&whole(b"AB"), &chip, &other), 10);
+    }
+
+    #[test]
+    fn a_finalize_tells_what_a_start_did_not_judge() {
+        let (card, chip) = (vec![0; PLACE], vec![0; ENTRY]);
+        let mut damaged = card.clone();
+        damaged[583] = 1;
+        let cases: [(HandleBytes, u32); 6] = [
+            (started(b"", 0, 0), 3),
+            (started(b"a\x7f", 0, 0), 3),
+            (started(b"a", 8, 0), 4),
+            (started(b"a", u32::MAX, 0), 4),
+            (Handle::ZERO, 3),
+            ([0xff; 88], 19),
+        ];
+        for (handle, expected) in cases {
+            let call = finalize(handle, &[0; 480]);
+            assert_eq!(number(&card, &chip, &call), expected);
+            assert_eq!(
+                number(&damaged, &chip, &call),
+                if expected == 19 { 19 } else { 2 }
+            );
+            assert_eq!(number(&card, &[], &call), 1);
+            assert_eq!(number(&damaged, &chip, &finalize(handle, &[0; 479])), 1);
+            let odd_key = Call::SetFinalize {
+                key: vec![0; 15],
+                handle,
+                staging: vec![0; 480],
+            };
+            assert_eq!(number(&damaged, &chip, &odd_key), 1);
+        }
+    }
+
+    #[test]
+    fn a_refused_start_returns_the_all_zero_handle_and_a_refused_add_the_given_one() {
+        let start = |name: &[u8], iv: &[u8], declared| {
+            let call = Call::SetStart {
+                name: name.to_vec(),
+                flags: 14,
+                iv: iv.to_vec(),
+                declared,
+                handle: [0xee; 88],
+            };
+            let answer = answer(&[], &[], &call).0;
+            (answer.number, answer.handle == [0; 88])
+        };
+        assert_eq!(start(b"a", b"iv-iv-iv", 480), (0, false));
+        assert_eq!(start(b"a", b"iv-iv-iv", 481), (5, true));
+        assert_eq!(start(&[b'n'; 65], b"iv-iv-iv", 481), (3, true));
+        for iv in [&b""[..], b"seven..", b"nine....."] {
+            assert_eq!(start(&[b'n'; 65], iv, 481), (1, true));
+        }
+        for (staging, expected) in [(0, 1), (479, 1), (480, 19), (481, 1)] {
+            let call = Call::SetAddData {
+                handle: [0xff; 88],
+                staging: vec![7; staging],
+                chunk: b"chunk".to_vec(),
+            };
+            let answer = answer(&[], &[], &call).0;
+            assert_eq!(answer.number, expected);
+            assert_eq!(answer.handle, [0xff; 88]);
+            assert_eq!(answer.output, vec![7; staging]);
+        }
     }
 }

@@ -2,6 +2,7 @@
 //! are wrong in one way.
 
 use crate::area::{Card, Chip, Entry, Place, NAME_MAX};
+use crate::handle::{Handle, STAGING};
 use crate::keyfile::{key_name, Attributes, KeyFile};
 use crate::record::{Flags, Record, DATA_MAX, RECORD_MAX};
 use crate::rng::Rng;
@@ -12,7 +13,7 @@ const USUAL_FLAGS: [u32; 14] = [0, 0, 2, 2, 4, 6, 6, 12, 12, 12, 14, 14, 5, 15];
 pub const BAD_BYTES: [u8; 5] = [0, 0x0a, 0x14, 0x1f, 0x7f];
 /// The ends of the two ranges of good bytes.
 const END_BYTES: [u8; 4] = [0x20, 0x7e, 0x80, 0xff];
-const DATA_SIZES: [usize; 14] = [0, 1, 2, 15, 16, 17, 31, 32, 33, 64, 100, 300, 479, 480];
+pub const DATA_SIZES: [usize; 14] = [0, 1, 2, 15, 16, 17, 31, 32, 33, 64, 100, 300, 479, 480];
 const OUTPUT_SIZES: [usize; 12] = [0, 1, 7, 15, 16, 17, 33, 64, 479, 480, 481, 600];
 pub const GOOD_IDENTIFIERS: [u32; 5] = [1, 42, 0xfffe_ffff, 0x0001_0000, 0x89ab_cdef];
 
@@ -199,6 +200,43 @@ pub fn wild_flags(rng: &mut Rng) -> u32 {
         0 => rng.below(32) as u32,
         1 => rng.pick(&GOOD_FLAGS) | 1 << (4 + rng.below(28)),
         _ => rng.number() as u32,
+    }
+}
+
+/// The handle and staging buffer that hold all of a set's data. What is too long
+/// or short for them is cut or filled; the handle tells the lengths as they were.
+pub fn held(rng: &mut Rng, name: &[u8], flags: u32, iv: &[u8], data: &[u8]) -> (Handle, Vec<u8>) {
+    fn fitted<const N: usize>(bytes: &[u8]) -> [u8; N] {
+        std::array::from_fn(|at| bytes.get(at).copied().unwrap_or(0))
+    }
+    let handle = Handle {
+        name: fitted(name),
+        name_length: name.len() as u32,
+        flags,
+        iv: fitted(iv),
+        declared: data.len() as u32,
+        count: data.len() as u32,
+    };
+    let rest = rng.bytes(STAGING - data.len().min(STAGING));
+    let mut staging = [data, &rest].concat();
+    staging.truncate(STAGING);
+    (handle, staging)
+}
+
+/// One of the handle's numbers past its bound, or bytes missing.
+pub fn break_handle(rng: &mut Rng, handle: &mut Handle) {
+    let wild = [1 << 16, 1 << 31, u32::MAX];
+    let wild = rng.pick(&wild);
+    let (length, declared) = (handle.name_length, handle.declared);
+    match rng.below(5) {
+        0 => handle.name_length = rng.pick(&[65, 66, 128, 256 | length, wild | length, wild]),
+        1 => handle.declared = rng.pick(&[481, 482, 512 | declared, wild | declared, wild]),
+        2 => {
+            let more = declared.saturating_add(1);
+            handle.count = rng.pick(&[more, 481, wild | declared, wild]);
+        }
+        3 => handle.declared = handle.count.saturating_sub(1),
+        _ => handle.count = handle.count.saturating_sub(1 + rng.below(3) as u32),
     }
 }
 

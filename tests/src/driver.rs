@@ -8,10 +8,10 @@ use reference::ciphers::{self, Checked};
 use reference::library::Library;
 use reference::rng::Rng;
 use reference::stories;
-use reference::tally::{Tally, NUMBERS};
-use reference::{edges, generator, lists, names, orders, parsing};
+use reference::tally::Tally;
+use reference::{divisions, edges, generator, handles, lists, names, orders, parsing};
 
-use crate::openssl;
+use crate::{long, openssl};
 
 const THREADS: u64 = 2;
 /// Mismatches told in full; the rest are only counted.
@@ -21,6 +21,7 @@ pub struct Options {
     pub seed: u64,
     pub stories: u64,
     pub lists: u64,
+    pub divisions: u64,
     /// Where the files of edges are.
     pub edges: PathBuf,
 }
@@ -50,8 +51,8 @@ impl Score {
 pub fn run(library: &dyn Library, options: &Options) -> Score {
     let mut score = Score::default();
     println!(
-        "seed {} stories {} lists {}",
-        options.seed, options.stories, options.lists
+        "seed {} stories {} lists {} divisions {}",
+        options.seed, options.stories, options.lists, options.divisions
     );
     for (name, checked) in ciphers::checks(library, options.seed) {
         score.check(&name, checked);
@@ -74,6 +75,14 @@ pub fn run(library: &dyn Library, options: &Options) -> Score {
     for (name, checked) in orders::checks(library) {
         score.check(&name, checked);
     }
+    for (name, checked) in handles::checks(library) {
+        score.check(&name, checked);
+    }
+    match long::check() {
+        Some(checked) => score.check("lengths-past-32-bits", checked),
+        None => println!("skipped lengths-past-32-bits: no room for them"),
+    }
+    run_divisions(library, options, &mut score);
     run_stories(library, options, &mut score);
     run_lists(library, options, &mut score);
     score
@@ -118,6 +127,36 @@ fn verdict(mismatches: &[String], passed: String) -> Checked {
     Err(format!("{} mismatches\n{told}", mismatches.len()))
 }
 
+fn run_divisions(library: &dyn Library, options: &Options, score: &mut Score) {
+    let seed = options.seed;
+    let (tally, mismatches) = in_parts(options.divisions, &|index, tally| {
+        let rng = Rng::part(seed ^ 7 << 40, index);
+        let told = divisions::check(rng, library, tally)?;
+        Some(format!("  division {index} of seed {seed}:\n    {told}\n"))
+    });
+    let calls = tally.calls();
+    let passed = format!("{} divisions, {calls} calls", options.divisions);
+    score.check("however-divided", verdict(&mismatches, passed));
+    let kinds = [0, 3, 9, 10, Call::SET_FINALIZE];
+    println!("answers in the divisions:\n{}", tally.table(&kinds));
+    score.check(
+        "however-divided-coverage",
+        coverage(&divisions::gaps(&tally)),
+    );
+}
+
+/// No number may be missing, or be one that can't be answered.
+fn coverage(gaps: &[String]) -> Checked {
+    if gaps.is_empty() {
+        Ok(String::new())
+    } else {
+        Err(format!(
+            "missing, or not to be answered: {}",
+            gaps.join(", ")
+        ))
+    }
+}
+
 fn run_stories(library: &dyn Library, options: &Options, score: &mut Score) {
     let seed = options.seed;
     let (tally, mismatches) = in_parts(options.stories, &|index, tally| {
@@ -157,19 +196,6 @@ fn run_lists(library: &dyn Library, options: &Options, score: &mut Score) {
     let passed = format!("{} merges, {calls} calls", options.lists);
     score.check("demand-3", verdict(&mismatches, passed));
 
-    println!("answers in the lists:\n{}", tally.table(&[0, 1, 2, 3]));
-    let gaps: Vec<String> = (0..4)
-        .flat_map(|kind| (0..NUMBERS).map(move |number| (kind, number)))
-        .filter(|(kind, number)| {
-            let due = lists::numbers(Call::KINDS[*kind]).contains(number);
-            due != (tally.number(*kind, *number) > 0)
-        })
-        .map(|(kind, number)| format!("{} {number}", Call::KINDS[kind]))
-        .collect();
-    let checked = if gaps.is_empty() {
-        Ok(String::new())
-    } else {
-        Err(format!("missing, or against the book: {}", gaps.join(", ")))
-    };
-    score.check("demand-3-coverage", checked);
+    println!("answers in the lists:\n{}", tally.table(&lists::KINDS));
+    score.check("demand-3-coverage", coverage(&lists::gaps(&tally)));
 }

@@ -190,7 +190,7 @@ mod tests {
     }
 
     /// Lines of each word with something wrong in them.
-    const WRONG: [&str; 36] = [
+    const WRONG: [&str; 53] = [
         "slots\t66\t1",
         "slots\t1",
         "slots\t1\t1\t1",
@@ -201,12 +201,19 @@ mod tests {
         "iv\t-\t=",
         "attributes\t00*19",
         "attributes\t00*21",
+        "handle\t00*87",
+        "handle\t00*89",
+        "staging\t00*513",
+        "staging",
         "poke\tcard\t584\t00",
         "poke\tcard\t18446744073709551615\t00",
         "poke\tcars\t0\t00",
+        "poke\thandle\t88\t00",
+        "poke\tstaging\t0\t00",
         "flip\tchip\t81\t0000",
         "keep\t4",
         "put\tcard\t0",
+        "put\thandle\t0",
         "say",
         "sleep",
         "\t",
@@ -217,6 +224,15 @@ mod tests {
         "reset\t=",
         "reset\t=\t0\t0",
         "get\t\"a\"\t18446744073709551616\t-\t=\t6\t0\t-",
+        "start\t\"a\"\t0\t=\t0\t00*88",
+        "start\t\"a\"\t4294967296\t0\t=\t0\t00*88",
+        "start\t\"a\"\t0\t18446744073709551616\t=\t5\t00*88",
+        "start\t\"a\"\t0\t481\t=\t5",
+        "add\t=\t1\t00*88\t-",
+        "add\t-\t=\t1\t00*88",
+        "add\t-\t=\t1\t-\t00*88",
+        "finalize\t=",
+        "finalize\t-\t=\t1",
         "at\tcard\t583\t=\t0000",
         "at\tcard\t0\t=",
         "same\t0\t=",
@@ -224,6 +240,7 @@ mod tests {
         "bits\tcard\t583\t2\tget\t\"a\"\t=\t2",
         "bits\tcard\t0\t0\tget\t\"a\"\t=\t2",
         "bits\tcard\t583\t1\tnext\t\"a\"\t=\t2",
+        "bits\thandle\t0\t1\tget\t\"a\"\t=\t6",
         "each\tcard\t584\t1\t2\tget\t\"a\"\t=\t2",
         "each\tcard\t0\t2\t1\tget\t\"a\"\t=\t2",
         "each\tcard\t0\t0\t256\tget\t\"a\"\t=\t2",
@@ -259,5 +276,36 @@ mod tests {
             let why = run(&Faulty(fault), "f.tsv", lines.join("\n").as_bytes()).unwrap_err();
             assert!(why.starts_with("4 of 4 lines differ"), "{why}");
         }
+    }
+    #[test]
+    fn a_handle_or_staging_buffer_that_differs_is_told() {
+        let lines = [
+            "# a group",
+            "staging\tee*480",
+            "start\t\"a\"\t0\t481\t=\t5\t00*88",
+            "add\t00\t=\t19\t00*88\tee*480",
+        ];
+        let faults: [fn(&Call, &mut Observed); 3] = [
+            |call, observed| {
+                if let Call::SetAddData { .. } = call {
+                    observed.answer.handle[84] = 1;
+                }
+            },
+            |call, observed| {
+                if let Call::SetAddData { .. } = call {
+                    observed.answer.output[479] = 0;
+                }
+            },
+            |call, observed| {
+                if let Call::SetStart { .. } = call {
+                    observed.answer.handle.pop();
+                }
+            },
+        ];
+        for fault in faults {
+            let why = run(&Faulty(fault), "f.tsv", lines.join("\n").as_bytes()).unwrap_err();
+            assert!(why.starts_with("1 of 2 lines differ"), "{why}");
+        }
+        assert!(told(&lines.join("\n")).is_ok());
     }
 }

@@ -7,6 +7,7 @@ use reference::aes::Block;
 use reference::answer::Answer;
 use reference::calls::Call;
 use reference::ctr::Iv;
+use reference::handle::HandleBytes;
 use reference::keyfile::Attributes;
 use reference::library::{Library, Observed, Seen};
 
@@ -141,6 +142,33 @@ extern "C" {
         enrollment_alg: *mut u32,
         material_len: *mut u32,
     ) -> u32;
+    pub fn securestore_set_start(
+        name: Bytes,
+        name_len: usize,
+        flags: u32,
+        iv: Bytes,
+        iv_len: usize,
+        final_data_size: usize,
+        handle: BytesMut,
+    ) -> u32;
+    pub fn securestore_set_add_data(
+        handle: BytesMut,
+        staging: BytesMut,
+        staging_len: usize,
+        chunk: Bytes,
+        chunk_len: usize,
+    ) -> u32;
+    pub fn securestore_set_finalize(
+        kv: BytesMut,
+        kv_len: usize,
+        rbp: BytesMut,
+        rbp_len: usize,
+        key: Bytes,
+        key_len: usize,
+        handle: Bytes,
+        staging: Bytes,
+        staging_len: usize,
+    ) -> u32;
 }
 
 const GUARD: usize = 64;
@@ -251,6 +279,7 @@ impl Library for Product {
             card: Lent::new("card", card),
             chip: Lent::new("chip", chip),
             output: Lent::new("output", call.output()),
+            handle: Lent::new("handle", call.handle()),
             read_only: Vec::new(),
             returned: [0; 2],
             strays: Vec::new(),
@@ -353,6 +382,7 @@ struct Lending {
     card: Lent,
     chip: Lent,
     output: Lent,
+    handle: Lent,
     read_only: Vec<Lent>,
     returned: [u64; 2],
     strays: Vec<String>,
@@ -360,7 +390,7 @@ struct Lending {
 
 impl Lending {
     fn observe(mut self, number: u32) -> Observed {
-        let writable = [&self.card, &self.chip, &self.output];
+        let writable = [&self.card, &self.chip, &self.output, &self.handle];
         let overruns = writable.into_iter().filter_map(Lent::overrun);
         let written = self.read_only.iter().filter_map(Lent::written);
         self.strays.extend(overruns.chain(written));
@@ -371,6 +401,7 @@ impl Lending {
                 card: self.card.content().to_vec(),
                 chip: self.chip.content().to_vec(),
                 output: self.output.content().to_vec(),
+                handle: self.handle.content().to_vec(),
             },
             strays: self.strays,
         }
@@ -421,13 +452,27 @@ impl Lending {
             Call::LoadKey {
                 key, identifier, ..
             } => self.load_key(key, *identifier),
+            Call::SetStart {
+                name,
+                flags,
+                iv,
+                declared,
+                ..
+            } => self.set_start(name, *flags, iv, *declared),
+            Call::SetAddData { chunk, .. } => self.set_add_data(chunk),
+            Call::SetFinalize {
+                key,
+                handle,
+                staging,
+            } => self.set_finalize(key, handle, staging),
         }
     }
 }
 
 /// The calls, one each.
 // SAFETY, of every one: each pointer is to a live buffer of the length beside it,
-// no two overlap, and numbers are returned to places of their own type.
+// or of a handle's 88 bytes, no two overlap, and numbers are returned to places
+// of their own type.
 impl Lending {
     fn set(&mut self, key: &[u8], name: &[u8], flags: u32, iv: &[u8], data: &[u8]) -> u32 {
         let [(kv, kv_len), (rbp, rbp_len), _] = self.areas();
@@ -606,5 +651,38 @@ impl Lending {
         };
         self.returned[0] = count.value(UNWRITTEN, &mut self.strays);
         number
+    }
+    fn set_start(&mut self, name: &[u8], flags: u32, iv: &[u8], declared: usize) -> u32 {
+        let (name, name_len) = self.read("name", name);
+        let (iv, iv_len) = self.read("IV", iv);
+        let handle = self.handle.ptr_mut();
+        unsafe { securestore_set_start(name, name_len, flags, iv, iv_len, declared, handle) }
+    }
+
+    fn set_add_data(&mut self, chunk: &[u8]) -> u32 {
+        let [_, _, (staging, staging_len)] = self.areas();
+        let (chunk, chunk_len) = self.read("chunk", chunk);
+        let handle = self.handle.ptr_mut();
+        unsafe { securestore_set_add_data(handle, staging, staging_len, chunk, chunk_len) }
+    }
+
+    fn set_finalize(&mut self, key: &[u8], handle: &HandleBytes, staging: &[u8]) -> u32 {
+        let [(kv, kv_len), (rbp, rbp_len), _] = self.areas();
+        let (key, key_len) = self.read("device key", key);
+        let (handle, _) = self.read("handle", handle);
+        let (staging, staging_len) = self.read("staging buffer", staging);
+        unsafe {
+            securestore_set_finalize(
+                kv,
+                kv_len,
+                rbp,
+                rbp_len,
+                key,
+                key_len,
+                handle,
+                staging,
+                staging_len,
+            )
+        }
     }
 }

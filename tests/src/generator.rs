@@ -3,9 +3,11 @@
 //! The teller runs the reference along, so that it knows what the card holds:
 //! most calls are then accepted or refused for one reason only.
 
+use crate::answer::Answer;
 use crate::area::{Card, Chip, PLACE};
 use crate::calls::{answer, Call};
 use crate::cast::{self, Cast, GOOD_IDENTIFIERS};
+use crate::handle::{Handle, HandleBytes, STAGING};
 use crate::keyfile::key_name;
 use crate::record::Record;
 use crate::rng::Rng;
@@ -32,6 +34,32 @@ pub enum Step {
 const ODD_KEYS: [usize; 6] = [0, 1, 8, 15, 17, 32];
 const ODD_IVS: [usize; 5] = [0, 1, 7, 9, 16];
 const BAD_IDENTIFIERS: [u32; 4] = [0, 0xffff_0000, 0xffff_ffff, 0xffff_ff52];
+const LONG_NAMES: [usize; 6] = [63, 64, 65, 66, 200, 257];
+const LONG_SIZES: [usize; 6] = [481, 482, 1 << 16, 1 << 32, (1 << 32) + 16, usize::MAX];
+const ODD_STAGINGS: [usize; 6] = [0, 1, 88, 479, 481, 960];
+/// Sets in chunks that go on at once.
+const STARTED_MAX: usize = 3;
+
+/// Of a set, whether it comes at once or in chunks.
+struct SetArguments {
+    key: Vec<u8>,
+    name: Vec<u8>,
+    flags: u32,
+    iv: Vec<u8>,
+    data: Vec<u8>,
+}
+
+impl From<SetArguments> for Call {
+    fn from(set: SetArguments) -> Call {
+        Call::Set {
+            key: set.key,
+            name: set.name,
+            flags: set.flags,
+            iv: set.iv,
+            data: set.data,
+        }
+    }
+}
 
 struct Teller {
     rng: Rng,
@@ -42,6 +70,8 @@ struct Teller {
     past: Vec<(Vec<u8>, Vec<u8>)>,
     /// The last undamaged ones of right length.
     sound: (Vec<u8>, Vec<u8>),
+    /// Handle and staging buffer of each set in chunks that the story has started.
+    started: Vec<(HandleBytes, Vec<u8>)>,
 }
 
 /// A story of 10 to 40 steps.
@@ -66,6 +96,7 @@ pub fn story(mut rng: Rng) -> Story {
         card: card.clone(),
         chip: chip.clone(),
         past: Vec::new(),
+        started: Vec::new(),
     };
     let count = 10 + teller.rng.below(31);
     let steps = (0..count).map(|_| teller.step()).collect();
@@ -100,6 +131,9 @@ impl Teller {
         match &step {
             Step::Call(call) => {
                 let (answer, _) = answer(&self.card, &self.chip, call);
+                if answer.number == 0 {
+                    self.go_on(call, &answer);
+                }
                 (self.card, self.chip) = (answer.card, answer.chip);
             }
             Step::Tamper { card, chip, .. } => {
@@ -107,6 +141,28 @@ impl Teller {
             }
         }
         step
+    }
+
+    /// A done call starts a set in chunks, or one that has started goes on.
+    fn go_on(&mut self, call: &Call, answer: &Answer) {
+        let handle = || answer.handle.clone().try_into().expect("88 bytes");
+        match call {
+            Call::SetStart { .. } => {
+                self.started.truncate(STARTED_MAX - 1);
+                self.started.insert(0, (handle(), self.rng.bytes(STAGING)));
+            }
+            Call::SetAddData {
+                handle: old,
+                staging,
+                ..
+            } => {
+                let mut started = self.started.iter_mut();
+                if let Some(own) = started.find(|own| own.0 == *old && own.1 == *staging) {
+                    *own = (handle(), answer.output.clone());
+                }
+            }
+            _ => {}
+        }
     }
 
     fn areas(&self) -> Option<(Card, Chip)> {
@@ -199,8 +255,8 @@ impl Teller {
     /// Mostly one thing is wrong or none; a wild call has several.
     fn call(&mut self) -> Call {
         let wild = self.rng.percent(12);
-        match self.rng.below(100) {
-            0..=29 => self.set(wild),
+        match self.rng.below(124) {
+            0..=29 => Call::from(self.set(wild)),
             30..=49 => {
                 let name = self.name(wild);
                 let size = self
@@ -239,15 +295,18 @@ impl Teller {
                     iv: self.iv(wild),
                 }
             }
-            _ => Call::LoadKey {
+            90..=99 => Call::LoadKey {
                 key: self.key(wild),
                 identifier: self.identifier(wild),
                 key_buffer: self.key_buffer(wild),
             },
+            100..=105 => self.set_start(wild),
+            106..=113 => self.set_add_data(wild),
+            _ => self.set_finalize(wild),
         }
     }
 
-    fn set(&mut self, wild: bool) -> Call {
+    fn set(&mut self, wild: bool) -> SetArguments {
         let name = self.name(wild);
         let chance = if wild { 30 } else { 4 };
         let data = if self.rng.percent(chance) {
@@ -259,12 +318,96 @@ impl Teller {
         } else {
             cast::data(&mut self.rng)
         };
-        Call::Set {
+        SetArguments {
             key: self.key(wild),
             flags: self.flags(&name, wild),
             name,
             iv: self.iv(wild),
             data,
+        }
+    }
+
+    fn set_start(&mut self, wild: bool) -> Call {
+        let chance = if wild { 30 } else { 6 };
+        let name = if self.rng.percent(chance) {
+            self.odd(&LONG_NAMES)
+        } else {
+            self.name(wild)
+        };
+        let declared = if self.rng.percent(chance) {
+            self.rng.pick(&LONG_SIZES)
+        } else {
+            self.rng.pick(&cast::DATA_SIZES)
+        };
+        Call::SetStart {
+            flags: self.flags(&name, wild),
+            name,
+            iv: self.iv(wild),
+            declared,
+            handle: self.rng.array(),
+        }
+    }
+
+    /// A set that the story has started, or another one that has all its data.
+    /// At times they were tampered with.
+    fn in_chunks(&mut self, wild: bool) -> (Vec<u8>, Handle, Vec<u8>) {
+        let set = self.set(wild);
+        let own = cast::held(&mut self.rng, &set.name, set.flags, &set.iv, &set.data);
+        let (mut handle, mut staging) = if !self.started.is_empty() && self.rng.percent(45) {
+            let (handle, staging) = self.rng.pick(&self.started);
+            (Handle::decode(&handle), staging)
+        } else {
+            own
+        };
+        let chance = if wild { 40 } else { 10 };
+        if self.rng.percent(chance) {
+            match self.rng.below(10) {
+                0 => handle = Handle::decode(&self.rng.array()),
+                1 => handle = Handle::decode(&Handle::ZERO),
+                // Behind the name, or in it.
+                2 => handle.name[self.rng.below(64)] = self.rng.number() as u8,
+                3 => handle.name_length = self.rng.below(65) as u32,
+                _ => cast::break_handle(&mut self.rng, &mut handle),
+            }
+        }
+        if self.rng.percent(chance) {
+            let at = self.rng.below(staging.len());
+            staging[at] ^= 1 << self.rng.below(8);
+        }
+        if self.rng.percent(chance / 3) {
+            staging = self.odd(&ODD_STAGINGS);
+        }
+        (set.key, handle, staging)
+    }
+
+    fn set_add_data(&mut self, wild: bool) -> Call {
+        let (_, mut handle, staging) = self.in_chunks(wild);
+        if handle.count == handle.declared && self.rng.percent(60) {
+            handle.count = self.rng.below(handle.count as usize + 1) as u32;
+        }
+        let rest = handle.declared.saturating_sub(handle.count).min(600) as usize;
+        let length = match self.rng.below(20) {
+            0 | 1 => 0,
+            2 | 3 => 1,
+            4..=10 => rest,
+            11 | 12 => rest + 1,
+            13 => self.rng.pick(&[480, 481, 1000]),
+            14 if self.rng.percent(20) => (1 << 16) + rest,
+            _ => self.rng.below(rest + 1),
+        };
+        Call::SetAddData {
+            handle: handle.encode(),
+            staging,
+            chunk: self.rng.bytes(length),
+        }
+    }
+
+    fn set_finalize(&mut self, wild: bool) -> Call {
+        let (key, handle, staging) = self.in_chunks(wild);
+        Call::SetFinalize {
+            key,
+            handle: handle.encode(),
+            staging,
         }
     }
 

@@ -5,19 +5,23 @@
 //! a place for each name that the card holds or that is set, and an entry for
 //! each that the chip holds or that is set: the tightest start from which no
 //! merge can meet 10, so no reading of the premise asks for less.
+//!
+//! 02, No. 2 "counts the finish as a set": a `set_finalize` gives the name that its
+//! handle tells, and sets it where it is good and its length is one.
 
 use std::collections::BTreeSet;
 
-use crate::area::{good_name, Area, Card, Chip, Slot, ENTRY, PLACE};
+use crate::area::{good_name, Area, Card, Chip, Slot, ENTRY, NAME_MAX, PLACE};
 use crate::book::{Answer, Book, Contents};
 use crate::calls::{self, Call};
 use crate::cast::{self, Cast};
+use crate::handle::Handle;
 use crate::library::Library;
 use crate::record::Record;
 use crate::rng::Rng;
 use crate::show;
 use crate::shrink::{drop_parts, shorten_area};
-use crate::tally::Tally;
+use crate::tally::{Tally, NUMBERS};
 
 /// A merge: each call with the list it comes from.
 #[derive(Clone)]
@@ -27,14 +31,28 @@ pub struct Merge {
     calls: Vec<(usize, Call)>,
 }
 
-fn name_of(call: &Call) -> &[u8] {
+/// The calls that the lists hold.
+pub const KINDS: [usize; 5] = [0, 1, 2, 3, Call::SET_FINALIZE];
+
+fn name_of(call: &Call) -> Vec<u8> {
     match call {
         Call::Set { name, .. }
         | Call::Get { name, .. }
         | Call::Info { name, .. }
-        | Call::Remove { name } => name,
+        | Call::Remove { name } => name.clone(),
+        Call::SetFinalize { handle, .. } => Handle::decode(handle).name().to_vec(),
         _ => panic!("no call of demand 3"),
     }
+}
+
+/// Whether the call sets its name, accepted or refused.
+fn sets(call: &Call) -> bool {
+    let fits = match call {
+        Call::Set { .. } => true,
+        Call::SetFinalize { handle, .. } => Handle::decode(handle).name_length <= NAME_MAX as u32,
+        _ => false,
+    };
+    fits && good_name(&name_of(call))
 }
 
 pub fn merge(mut rng: Rng) -> Merge {
@@ -45,11 +63,10 @@ pub fn merge(mut rng: Rng) -> Merge {
     let start = Book::of(&card, &chip);
     let lists = sides.map(|names| list(&mut rng, &cast, &names, start.clone()));
     let calls = shuffle(&mut rng, lists);
-    let set: BTreeSet<&[u8]> = calls
+    let set: BTreeSet<Vec<u8>> = calls
         .iter()
-        .filter(|(_, call)| matches!(call, Call::Set { .. }))
+        .filter(|(_, call)| sets(call))
         .map(|(_, call)| name_of(call))
-        .filter(|name| good_name(name))
         .collect();
     Merge {
         card: with_room(&mut rng, card, &set).encode(),
@@ -109,15 +126,21 @@ fn list_call(rng: &mut Rng, cast: &Cast, name: Vec<u8>, book: &Book) -> Call {
                 data.resize(481, 0);
             }
             let iv_length = if rng.percent(4) { 7 } else { 8 };
+            let flags = if rng.percent(4) {
+                8
+            } else {
+                cast::flags(rng, old)
+            };
+            let iv = rng.bytes(iv_length);
+            if rng.percent(40) {
+                let held = cast::held(rng, &name, flags, &iv, &data);
+                return finalize(rng, key, held);
+            }
             Call::Set {
                 key,
                 name,
-                flags: if rng.percent(4) {
-                    8
-                } else {
-                    cast::flags(rng, old)
-                },
-                iv: rng.bytes(iv_length),
+                flags,
+                iv,
                 data,
             }
         }
@@ -132,6 +155,22 @@ fn list_call(rng: &mut Rng, cast: &Cast, name: Vec<u8>, book: &Book) -> Call {
         }
         8 => Call::Info { key, name },
         _ => Call::Remove { name },
+    }
+}
+
+/// At times broken. The name stays, also where its length is told wrong.
+fn finalize(rng: &mut Rng, key: Vec<u8>, held: (Handle, Vec<u8>)) -> Call {
+    let (mut handle, mut staging) = held;
+    if rng.percent(6) {
+        cast::break_handle(rng, &mut handle);
+    }
+    if rng.percent(4) {
+        staging.resize(rng.pick(&[0, 479, 481]), 0);
+    }
+    Call::SetFinalize {
+        key,
+        handle: handle.encode(),
+        staging,
     }
 }
 
@@ -150,8 +189,8 @@ fn shuffle(rng: &mut Rng, lists: [Vec<Call>; 2]) -> Vec<(usize, Call)> {
 }
 
 /// The same slots among as few as the premise allows, at times a few more.
-fn with_room<S: Slot + Clone>(rng: &mut Rng, area: Area<S>, set: &BTreeSet<&[u8]>) -> Area<S> {
-    let held: BTreeSet<&[u8]> = area.used().map(|(_, slot)| slot.name()).collect();
+fn with_room<S: Slot + Clone>(rng: &mut Rng, area: Area<S>, set: &BTreeSet<Vec<u8>>) -> Area<S> {
+    let held: BTreeSet<Vec<u8>> = area.used().map(|(_, slot)| slot.name().to_vec()).collect();
     let room = held.union(set).count() + rng.pick(&[0, 0, 0, 1, 3]);
     let mut roomy = Area::free(room.max(1));
     for (_, slot) in area.used() {
@@ -215,12 +254,15 @@ fn final_contents(
         _ => return Some("the final card or chip is damaged".into()),
     };
     let end = Book::of(&card, &chip);
-    let called = merge.calls.iter().map(|(_, call)| name_of(call).to_vec());
+    let called = merge.calls.iter().map(|(_, call)| name_of(call));
     let names: BTreeSet<Vec<u8>> = called
         .chain(start.names().chain(end.names()).cloned())
         .collect();
     names.iter().find_map(|name| {
-        let mut owner = merge.calls.iter().filter(|(_, call)| name_of(call) == name);
+        let mut owner = merge
+            .calls
+            .iter()
+            .filter(|(_, call)| name_of(call) == *name);
         let book = owner.next().map_or(start, |(side, _)| &books[*side]);
         let (expected, got) = (book.contents(name), end.contents(name));
         (expected != got).then(|| {
@@ -281,20 +323,35 @@ pub fn report(merge: &Merge, library: &dyn Library) -> String {
 }
 
 /// The numbers that the book can answer each call of demand 3 with.
-pub fn numbers(kind: &str) -> &'static [usize] {
+fn numbers(kind: &str) -> &'static [u32] {
     match kind {
         "set" => &[0, 1, 3, 4, 5, 7, 8, 9],
         "get" => &[0, 1, 3, 6, 8, 11, 12, 14],
         "info" => &[0, 1, 3, 6, 8, 11, 12],
         "remove" => &[0, 3, 6, 7, 8],
+        "set_finalize" => &[0, 1, 3, 4, 7, 8, 9, 19],
         _ => &[],
     }
+}
+
+/// Numbers that a call never answered, or that the book has none of.
+pub fn gaps(tally: &Tally) -> Vec<String> {
+    let mut gaps = Vec::new();
+    for kind in KINDS {
+        let name = Call::KINDS[kind];
+        for number in NUMBERS {
+            if numbers(name).contains(&number) != (tally.number(kind, number) > 0) {
+                gaps.push(format!("{name} {number}"));
+            }
+        }
+    }
+    gaps
 }
 
 #[cfg(test)]
 mod tests {
     use super::*;
-    use crate::library::Reference;
+    use crate::library::{Faulty, Observed, Reference};
 
     #[test]
     fn the_reference_keeps_demand_3() {
@@ -305,12 +362,54 @@ mod tests {
                 panic!("{}", report(&merge, &Reference));
             }
         }
-        for kind in 0..4 {
-            for number in 0..15 {
-                let due = numbers(Call::KINDS[kind]).contains(&number);
-                let seen = tally.number(kind, number) > 0;
-                assert_eq!(seen, due, "{} {number}", Call::KINDS[kind]);
-            }
+        assert_eq!(gaps(&tally), Vec::<String>::new());
+    }
+
+    #[test]
+    fn the_lists_share_no_name() {
+        for index in 0..1500 {
+            let merge = merge(Rng::part(4, index));
+            let names = |of: usize| -> BTreeSet<Vec<u8>> {
+                let calls = merge.calls.iter().filter(|(side, _)| *side == of);
+                calls.map(|(_, call)| name_of(call)).collect()
+            };
+            assert!(names(0).is_disjoint(&names(1)), "{index}");
         }
+    }
+
+    #[test]
+    fn a_name_is_set_by_good_bytes_of_a_told_length() {
+        let finalize = |name: &[u8], length| {
+            let (mut handle, staging) = cast::held(&mut Rng::new(1), name, 0, &[0; 8], b"");
+            handle.name_length = length;
+            sets(&Call::SetFinalize {
+                key: Vec::new(),
+                handle: handle.encode(),
+                staging,
+            })
+        };
+        assert!(finalize(b"a", 1) && finalize(&[b'n'; 64], 64));
+        assert!(!finalize(b"a", 0) && !finalize(b"a", 2) && !finalize(b"\x7f", 1));
+        assert!(!finalize(&[b'n'; 64], 65) && !finalize(&[b'n'; 64], u32::MAX));
+    }
+
+    /// Trusts a handle whatever it counts.
+    fn trust(call: &Call, seen: &mut Observed) {
+        if matches!(call, Call::SetFinalize { .. }) && seen.answer.number == 19 {
+            seen.answer.number = 0;
+        }
+    }
+
+    #[test]
+    fn a_wrong_answer_is_caught_and_its_merge_shortened() {
+        let trusting = Faulty(trust);
+        let told = (0..500).find_map(|index| {
+            let merge = merge(Rng::part(5, index));
+            check(&merge, &trusting, &mut Tally::default())?;
+            Some(report(&merge, &trusting))
+        });
+        let told = told.expect("a difference");
+        assert!(told.contains("the book says 19"), "{told}");
+        assert_eq!(told.matches("\n  list ").count(), 1, "{told}");
     }
 }

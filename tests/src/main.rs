@@ -2,6 +2,7 @@
 
 mod driver;
 mod ffi;
+mod long;
 mod openssl;
 
 use std::process::ExitCode;
@@ -17,6 +18,7 @@ fn options(mut arguments: impl Iterator<Item = String>) -> Result<Option<Options
         seed: 1,
         stories: 40_000,
         lists: 20_000,
+        divisions: 4_000,
         edges: edges::FOLDER.into(),
     };
     while let Some(name) = arguments.next() {
@@ -27,6 +29,7 @@ fn options(mut arguments: impl Iterator<Item = String>) -> Result<Option<Options
             "--seed" => options.seed = number(value()?)?,
             "--stories" => options.stories = number(value()?)?,
             "--lists" => options.lists = number(value()?)?,
+            "--divisions" => options.divisions = number(value()?)?,
             "--edges" => options.edges = value()?.into(),
             _ => return Err(format!("{name} is unknown")),
         }

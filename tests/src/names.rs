@@ -1,12 +1,15 @@
 //! 02, No. 1: every byte wherever a name's byte is judged, with the answers
 //! written by hand.
 
+use crate::answer::Answer;
 use crate::area::{ENTRY, NAME_MAX, PLACE};
 use crate::calls::Call;
 use crate::ciphers::Checked;
+use crate::handle::STAGING;
 use crate::library::Library;
 
 const KEY: [u8; 16] = *b"0123456789abcdef";
+const IV: [u8; 8] = *b"iv-iv-iv";
 const DATA: &[u8] = b"data";
 /// Confidentiality, integrity and replay protection.
 const FLAGS: u32 = 14;
@@ -96,11 +99,19 @@ fn argument(library: &dyn Library, name: &[u8], out: bool) -> Tried {
         key: KEY.to_vec(),
         name: name.to_vec(),
         flags: FLAGS,
-        iv: b"iv-iv-iv".to_vec(),
+        iv: IV.to_vec(),
         data: DATA.to_vec(),
     };
     let stored = library.call(&card, &chip, &set).answer;
     expect(name, "set", stored.number, if out { 3 } else { 0 })?;
+    let finalized = in_chunks(library, &card, &chip, name)?;
+    expect(name, "set_finalize", finalized.number, stored.number)?;
+    if finalized != stored {
+        return Err(format!(
+            "\"{}\" is set otherwise in chunks",
+            name.escape_ascii()
+        ));
+    }
     if out {
         return Ok(());
     }
@@ -110,6 +121,37 @@ fn argument(library: &dyn Library, name: &[u8], out: bool) -> Tried {
         return Err(format!("\"{}\" is not kept whole", name.escape_ascii()));
     }
     Ok(())
+}
+
+/// The same set in chunks. Only its end judges a byte of the name.
+fn in_chunks(
+    library: &dyn Library,
+    card: &[u8],
+    chip: &[u8],
+    name: &[u8],
+) -> Result<Answer, String> {
+    let start = Call::SetStart {
+        name: name.to_vec(),
+        flags: FLAGS,
+        iv: IV.to_vec(),
+        declared: DATA.len(),
+        handle: [0xee; 88],
+    };
+    let started = library.call(card, chip, &start).answer;
+    expect(name, "set_start", started.number, 0)?;
+    let add = Call::SetAddData {
+        handle: started.handle.try_into().expect("88 bytes"),
+        staging: vec![0xee; STAGING],
+        chunk: DATA.to_vec(),
+    };
+    let added = library.call(card, chip, &add).answer;
+    expect(name, "set_add_data", added.number, 0)?;
+    let finalize = Call::SetFinalize {
+        key: KEY.to_vec(),
+        handle: added.handle.try_into().expect("88 bytes"),
+        staging: added.output,
+    };
+    Ok(library.call(card, chip, &finalize).answer)
 }
 
 /// A name in a used place, and in a used entry.

@@ -1,9 +1,11 @@
-//! 01's order of tests for each call, written by hand: every set of faults that
-//! a call can have at once must give the number of the first in the order.
+//! The order of tests of 01 and 02 for each call, written by hand: every set of
+//! faults that a call can have at once must give the number of the first in the
+//! order, so each test wins over each one behind it.
 
 use crate::area::{Card, Chip, Entry, Place, ENTRY, PLACE};
 use crate::calls::Call;
 use crate::ciphers::Checked;
+use crate::handle::{Handle, STAGING};
 use crate::keyfile::{Attributes, KeyFile};
 use crate::library::Library;
 use crate::record::{Flags, Record};
@@ -73,12 +75,17 @@ const KEY_LENGTH: Fault = (1, |scene| match &mut scene.call {
     | Call::Get { key, .. }
     | Call::Info { key, .. }
     | Call::KeepKey { key, .. }
-    | Call::LoadKey { key, .. } => key.push(0),
+    | Call::LoadKey { key, .. }
+    | Call::SetFinalize { key, .. } => key.push(0),
     _ => unreachable!("lent no key"),
 });
 const IV_LENGTH: Fault = (1, |scene| match &mut scene.call {
-    Call::Set { iv, .. } | Call::KeepKey { iv, .. } => iv.truncate(7),
+    Call::Set { iv, .. } | Call::KeepKey { iv, .. } | Call::SetStart { iv, .. } => iv.truncate(7),
     _ => unreachable!("lent no IV"),
+});
+const STAGING_LENGTH: Fault = (1, |scene| match &mut scene.call {
+    Call::SetAddData { staging, .. } | Call::SetFinalize { staging, .. } => staging.push(0),
+    _ => unreachable!("lent no staging buffer"),
 });
 const BUFFER_LENGTH: Fault = (1, |scene| match &mut scene.call {
     Call::Walk { name_buffer, .. } => name_buffer.truncate(63),
@@ -97,20 +104,49 @@ const BAD_NAME: Fault = (3, |scene| match &mut scene.call {
     | Call::Remove { name }
     | Call::Walk { prefix: name, .. } => name.push(0x7f),
     Call::KeepKey { identifier, .. } | Call::LoadKey { identifier, .. } => *identifier = 0,
+    Call::SetFinalize { .. } => change_handle(&mut scene.call, |handle| handle.name[0] = 0x7f),
     _ => unreachable!("no name"),
 });
-const BAD_FLAGS: Fault = (4, |scene| *flags(&mut scene.call) |= 16);
+const BAD_FLAGS: Fault = (4, |scene| change_flags(&mut scene.call, |flags| flags | 16));
 const DATA_TOO_LONG: Fault = (5, |scene| {
     if let Call::Set { data, .. } = &mut scene.call {
         data.resize(481, 1);
     }
 });
+const NAME_TOO_LONG: Fault = (3, |scene| {
+    if let Call::SetStart { name, .. } = &mut scene.call {
+        name.resize(65, b'n');
+    }
+});
+const DECLARED_TOO_LONG: Fault = (5, |scene| {
+    if let Call::SetStart { declared, .. } = &mut scene.call {
+        *declared = 481;
+    }
+});
+// Each leaves the handle broken where another has broken it.
+const HANDLE_NAME: Fault = (19, |scene| {
+    change_handle(&mut scene.call, |handle| handle.name_length = 65);
+});
+const HANDLE_DECLARED: Fault = (19, |scene| {
+    change_handle(&mut scene.call, |handle| handle.declared = 481);
+});
+const HANDLE_COUNT: Fault = (19, |scene| {
+    change_handle(&mut scene.call, |handle| handle.count = handle.declared + 1);
+});
+const DATA_MISSING: Fault = (19, |scene| {
+    change_handle(&mut scene.call, |handle| handle.declared = handle.count + 1);
+});
+const CHUNK_PAST_DECLARED: Fault = (19, |scene| {
+    if let Call::SetAddData { chunk, .. } = &mut scene.call {
+        chunk.resize(481, 1);
+    }
+});
 const REVISION: Fault = (8, |scene| scene.card[68 + 2] = 2);
 const OLD_WRITE_ONCE: Fault = (7, |scene| scene.card[68 + 8] |= 1);
-const NEW_WRITE_ONCE: Fault = (7, |scene| *flags(&mut scene.call) |= 1);
-const FLAGS_DIFFER: Fault = (9, |scene| *flags(&mut scene.call) ^= 2);
+const NEW_WRITE_ONCE: Fault = (7, |scene| change_flags(&mut scene.call, |flags| flags | 1));
+const FLAGS_DIFFER: Fault = (9, |scene| change_flags(&mut scene.call, |flags| flags ^ 2));
 const WRITE_ONCE_ON_CHIP: Fault = (7, |scene| {
-    *flags(&mut scene.call) |= 1;
+    change_flags(&mut scene.call, |flags| flags | 1);
     put_entry(scene, new_name(&scene.call));
 });
 const NO_PLACE: Fault = (10, |scene| {
@@ -157,17 +193,31 @@ const MATERIAL_TOO_LONG: Fault = (13, |scene| match &mut scene.call {
     _ => unreachable!("no material"),
 });
 
-fn flags(call: &mut Call) -> &mut u32 {
+fn change_flags(call: &mut Call, change: fn(u32) -> u32) {
     match call {
-        Call::Set { flags, .. } | Call::KeepKey { flags, .. } => flags,
+        Call::Set { flags, .. } | Call::KeepKey { flags, .. } => *flags = change(*flags),
+        Call::SetFinalize { .. } => {
+            change_handle(call, |handle| handle.flags = change(handle.flags))
+        }
         _ => unreachable!("no flags"),
+    }
+}
+
+fn change_handle(call: &mut Call, change: impl Fn(&mut Handle)) {
+    match call {
+        Call::SetAddData { handle, .. } | Call::SetFinalize { handle, .. } => {
+            let mut changed = Handle::decode(handle);
+            change(&mut changed);
+            *handle = changed.encode();
+        }
+        _ => unreachable!("no handle"),
     }
 }
 
 /// The name that the call for a new name gives.
 fn new_name(call: &Call) -> Vec<u8> {
     match call {
-        Call::Set { .. } => b"new".to_vec(),
+        Call::Set { .. } | Call::SetFinalize { .. } => b"new".to_vec(),
         _ => b"0000000000000001".to_vec(),
     }
 }
@@ -194,6 +244,7 @@ fn order(library: &dyn Library, call: &Call, faults: &[Fault]) -> Result<usize, 
         let unchanged = answer.card == scene.card
             && answer.chip == scene.chip
             && answer.output == scene.call.output()
+            && answer.handle == refused_handle(&scene.call)
             && answer.returned == [0; 2];
         if answer.number != expected || !got.strays.is_empty() || expected != 0 && !unchanged {
             let numbers: Vec<u32> = chosen().map(|(_, (number, _))| *number).collect();
@@ -206,6 +257,14 @@ fn order(library: &dyn Library, call: &Call, faults: &[Fault]) -> Result<usize, 
         }
     }
     Ok(1 << faults.len())
+}
+
+/// "refused, it returns an all-zero state"; else as given.
+fn refused_handle(call: &Call) -> Vec<u8> {
+    match call {
+        Call::SetStart { .. } => vec![0; 88],
+        _ => call.handle().to_vec(),
+    }
 }
 
 fn set(name: &[u8]) -> Call {
@@ -275,7 +334,42 @@ fn load() -> Call {
     }
 }
 
-/// The faults of every call on card and chip that names something.
+fn set_start() -> Call {
+    Call::SetStart {
+        name: b"new".to_vec(),
+        flags: FLAGS,
+        iv: IV.to_vec(),
+        declared: 4,
+        handle: [0xee; 88],
+    }
+}
+
+/// Of four bytes, of which so many have come.
+fn handle(name: &[u8], count: u32) -> Handle {
+    let mut handle = Handle::start(name, FLAGS, IV, 4).expect("a short name");
+    handle.count = count;
+    handle
+}
+
+fn set_add_data() -> Call {
+    Call::SetAddData {
+        handle: handle(b"new", 2).encode(),
+        staging: vec![0xee; STAGING],
+        chunk: b"ta".to_vec(),
+    }
+}
+
+fn set_finalize(name: &[u8]) -> Call {
+    Call::SetFinalize {
+        key: KEY.to_vec(),
+        handle: handle(name, 4).encode(),
+        staging: vec![0xee; STAGING],
+    }
+}
+
+const LENGTHS: &[Fault] = &[CARD_LENGTH, CHIP_LENGTH];
+/// What every call on card and chip that names something is judged by behind them.
+const NAMED: &[Fault] = &[CARD_DAMAGED, CHIP_DAMAGED, BAD_NAME];
 const AREAS: &[Fault] = &[
     CARD_LENGTH,
     CHIP_LENGTH,
@@ -283,6 +377,8 @@ const AREAS: &[Fault] = &[
     CHIP_DAMAGED,
     BAD_NAME,
 ];
+/// A handle that is broken in each way.
+const BROKEN: &[Fault] = &[HANDLE_NAME, HANDLE_DECLARED, HANDLE_COUNT];
 /// What a set of a known name can meet behind its arguments' tests.
 const STORED: &[Fault] = &[
     REVISION,
@@ -359,8 +455,36 @@ fn keyless_orders() -> Vec<Order> {
     ]
 }
 
+fn handle_orders() -> Vec<Order> {
+    let add = line(&[&[STAGING_LENGTH], BROKEN, &[CHUNK_PAST_DECLARED]]);
+    let first = line(&[LENGTHS, &[KEY_LENGTH, STAGING_LENGTH]]);
+    let broken = line(&[BROKEN, &[DATA_MISSING]]);
+    let finalize =
+        |handle: &[Fault], faults: &[Fault]| line(&[&first, handle, NAMED, &[BAD_FLAGS], faults]);
+    let (known, new) = (set_finalize(NAME), set_finalize(b"new"));
+    let missing = &[DATA_MISSING];
+    vec![
+        (
+            "set_start",
+            set_start(),
+            vec![IV_LENGTH, NAME_TOO_LONG, DECLARED_TOO_LONG],
+        ),
+        ("set_add_data", set_add_data(), add),
+        ("set_finalize-known", known, finalize(missing, STORED)),
+        ("set_finalize-new", new.clone(), finalize(&broken, FULL)),
+        ("set_finalize-on-chip", new, finalize(missing, ON_CHIP)),
+    ]
+}
+
 fn orders() -> Vec<Order> {
-    [set_orders(), get_orders(), load_orders(), keyless_orders()].concat()
+    [
+        set_orders(),
+        get_orders(),
+        load_orders(),
+        keyless_orders(),
+        handle_orders(),
+    ]
+    .concat()
 }
 
 pub fn checks(library: &dyn Library) -> Vec<(String, Checked)> {

@@ -46,6 +46,8 @@ pub fn spell_all(values: &[Value]) -> String {
 pub enum Place {
     Card,
     Chip,
+    Handle,
+    Staging,
 }
 
 /// A line's first word, and the fields behind it that are not read yet.
@@ -97,6 +99,16 @@ impl<'a> Line<'a> {
         match self.field()? {
             b"card" => Ok(Place::Card),
             b"chip" => Ok(Place::Chip),
+            b"handle" => Ok(Place::Handle),
+            b"staging" => Ok(Place::Staging),
+            _ => refuse(),
+        }
+    }
+
+    /// Card or chip.
+    pub fn medium(&mut self) -> Read<Place> {
+        match self.place()? {
+            medium @ (Place::Card | Place::Chip) => Ok(medium),
             _ => refuse(),
         }
     }

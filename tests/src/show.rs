@@ -2,6 +2,7 @@
 
 use crate::answer::Answer;
 use crate::calls::Call;
+use crate::handle::{Handle, HandleBytes};
 
 pub fn hex(bytes: &[u8]) -> String {
     bytes.iter().map(|byte| format!("{byte:02x}")).collect()
@@ -72,7 +73,62 @@ pub fn call(call: &Call) -> String {
             )
         }
         Call::WriteKeyFile { .. } | Call::KeepKey { .. } | Call::LoadKey { .. } => key_call(call),
+        Call::SetStart { .. } | Call::SetAddData { .. } | Call::SetFinalize { .. } => {
+            handle_call(call)
+        }
     }
+}
+
+fn handle_call(call: &Call) -> String {
+    match call {
+        Call::SetStart {
+            name: n,
+            flags,
+            iv,
+            declared,
+            handle,
+        } => format!(
+            "set_start name {} flags {flags:#x} iv {} declared {declared} handle {}",
+            name(n),
+            hex(iv),
+            buffer(handle)
+        ),
+        Call::SetAddData {
+            handle: lent,
+            staging,
+            chunk,
+        } => format!(
+            "set_add_data handle {} chunk {} staging {}",
+            handle(lent),
+            buffer(chunk),
+            buffer(staging)
+        ),
+        Call::SetFinalize {
+            key,
+            handle: lent,
+            staging,
+        } => format!(
+            "set_finalize handle {} key {} staging {}",
+            handle(lent),
+            hex(key),
+            buffer(staging)
+        ),
+        _ => unreachable!("no call with a handle"),
+    }
+}
+
+/// The fields; the name with what stands behind its length.
+fn handle(bytes: &HandleBytes) -> String {
+    let handle = Handle::decode(bytes);
+    format!(
+        "(name {} length {} flags {:#x} iv {} declared {} count {})",
+        buffer(&handle.name),
+        handle.name_length,
+        handle.flags,
+        hex(&handle.iv),
+        handle.declared,
+        handle.count
+    )
 }
 
 fn key_call(call: &Call) -> String {
@@ -114,12 +170,13 @@ fn key_call(call: &Call) -> String {
 
 pub fn answer(answer: &Answer) -> String {
     format!(
-        "number {} returned {:?}\n      card {}\n      chip {}\n      output {}",
+        "number {} returned {:?}\n      card {}\n      chip {}\n      output {}\n      handle {}",
         answer.number,
         answer.returned,
         buffer(&answer.card),
         buffer(&answer.chip),
-        buffer(&answer.output)
+        buffer(&answer.output),
+        buffer(&answer.handle)
     )
 }
 

@@ -19,7 +19,7 @@ pub struct Mismatch {
     got: Observed,
 }
 
-fn difference(expected: &Answer, got: &Observed) -> Option<String> {
+pub fn difference(expected: &Answer, got: &Observed) -> Option<String> {
     let answer = &got.answer;
     if let Some(stray) = got.strays.first() {
         return Some(stray.clone());
@@ -35,6 +35,7 @@ fn difference(expected: &Answer, got: &Observed) -> Option<String> {
     show::first_difference("card", &expected.card, &answer.card)
         .or_else(|| show::first_difference("chip", &expected.chip, &answer.chip))
         .or_else(|| show::first_difference("output", &expected.output, &answer.output))
+        .or_else(|| show::first_difference("handle", &expected.handle, &answer.handle))
 }
 
 /// The first call of the story whose answers differ.

@@ -5,21 +5,26 @@ use std::collections::BTreeMap;
 use crate::answer::Why;
 use crate::calls::Call;
 
-pub const NUMBERS: usize = 15;
+/// What the calls answer with: 01's numbers, and those of the requests so far.
+pub const NUMBERS: [u32; 16] = [0, 1, 2, 3, 4, 5, 6, 7, 8, 9, 10, 11, 12, 13, 14, 19];
 
 /// How often each call answered each number, and for which test.
 #[derive(Clone, Default)]
 pub struct Tally {
-    numbers: [[u64; NUMBERS]; Call::KINDS.len()],
+    numbers: [[u64; NUMBERS.len()]; Call::KINDS.len()],
     tests: BTreeMap<(usize, Option<Why>), u64>,
-    /// Answers above 14.
+    /// Answers with any other number.
     strange: u64,
+}
+
+fn column(number: u32) -> Option<usize> {
+    NUMBERS.iter().position(|known| *known == number)
 }
 
 impl Tally {
     pub fn count(&mut self, kind: usize, number: u32, why: Option<Why>) {
-        match self.numbers[kind].get_mut(number as usize) {
-            Some(count) => *count += 1,
+        match column(number) {
+            Some(column) => self.numbers[kind][column] += 1,
             None => self.strange += 1,
         }
         *self.tests.entry((kind, why)).or_default() += 1;
@@ -41,17 +46,17 @@ impl Tally {
         self.numbers.iter().flatten().sum::<u64>() + self.strange
     }
 
-    pub fn number(&self, kind: usize, number: usize) -> u64 {
-        self.numbers[kind][number]
+    pub fn number(&self, kind: usize, number: u32) -> u64 {
+        column(number).map_or(0, |column| self.numbers[kind][column])
     }
 
     pub fn table(&self, kinds: &[usize]) -> String {
-        let mut text = format!("{:>8}", "");
-        for number in 0..NUMBERS {
+        let mut text = format!("{:>12}", "");
+        for number in NUMBERS {
             text += &format!("{number:>8}");
         }
         for kind in kinds {
-            text += &format!("\n{:>8}", Call::KINDS[*kind]);
+            text += &format!("\n{:>12}", Call::KINDS[*kind]);
             for count in self.numbers[*kind] {
                 let shown = if count == 0 {
                     "-".into()
@@ -87,7 +92,7 @@ impl Tally {
             }
         }
         if self.strange > 0 {
-            gaps.push(format!("{} answers above 14", self.strange));
+            gaps.push(format!("{} answers with no known number", self.strange));
         }
         gaps
     }
@@ -104,13 +109,12 @@ impl Tally {
     }
 }
 
-/// The tests that can refuse a call of this kind, from 01's orders.
+/// The tests that can refuse a call of this kind, from 01's orders and 02.
 fn refusals(kind: &str) -> Vec<Why> {
     use Why::*;
     let areas = [CardLength, ChipLength, CardDamaged, ChipDamaged];
     let set = [
         DeviceKeyLength,
-        IvLength,
         BadFlags,
         NotWellFormed,
         OldWriteOnce,
@@ -129,20 +133,24 @@ fn refusals(kind: &str) -> Vec<Why> {
         EntryAbsent,
         EntryDiffers,
     ];
-    let parts: [&[Why]; 3] = match kind {
-        "set" => [&areas, &set, &[BadName, DataTooLong]],
-        "get" => [&areas, &read, &[BadName, OffsetBeyondData]],
-        "info" => [&areas, &read, &[BadName]],
-        "remove" => [&areas, &[BadName, NotFound], &[NotWellFormed, OldWriteOnce]],
-        "reset" => [&[CardLength], &[ChipLength], &[]],
-        "walk" => [&areas, &[NameBufferLength], &[BadPrefix, NotFound]],
-        "write" => [&[KeyBufferLength], &[MaterialTooLong], &[]],
-        "keep" => [&areas, &set, &[BadIdentifier, MaterialTooLong]],
-        "load" => [
+    let handle = [StagingLength, HandleNameLength, HandleDeclared, HandleCount];
+    let parts: Vec<&[Why]> = match kind {
+        "set" => vec![&areas, &set, &[IvLength, BadName, DataTooLong]],
+        "get" => vec![&areas, &read, &[BadName, OffsetBeyondData]],
+        "info" => vec![&areas, &read, &[BadName]],
+        "remove" => vec![&areas, &[BadName, NotFound, NotWellFormed, OldWriteOnce]],
+        "reset" => vec![&[CardLength, ChipLength]],
+        "walk" => vec![&areas, &[NameBufferLength, BadPrefix, NotFound]],
+        "write" => vec![&[KeyBufferLength, MaterialTooLong]],
+        "keep" => vec![&areas, &set, &[IvLength, BadIdentifier, MaterialTooLong]],
+        "load" => vec![
             &areas,
             &read,
             &[KeyBufferLength, BadIdentifier, NotAKeyFile],
         ],
+        "set_start" => vec![&[IvLength, NameTooLong, DeclaredTooLong]],
+        "set_add_data" => vec![&handle, &[ChunkPastDeclared]],
+        "set_finalize" => vec![&areas, &set, &handle, &[BadName, DataMissing]],
         _ => panic!("no call of that kind"),
     };
     parts.concat()

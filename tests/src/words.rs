@@ -3,6 +3,7 @@
 use crate::answer::Answer;
 use crate::area::{ENTRY, PLACE};
 use crate::calls::Call;
+use crate::handle::{Handle, HandleBytes};
 use crate::keyfile::Attributes;
 use crate::library::{Library, Observed};
 use crate::script::{self, refuse, spell_all, Line, Place, Read, Value};
@@ -13,13 +14,17 @@ const SLOTS_MAX: usize = 65;
 const NAMES_MAX: u64 = 94;
 /// More than the bytes of the longest card.
 const SWEPT_MAX: u64 = 65_535;
-const PREPARING: [&[u8]; 11] = [
+/// More than a staging buffer's 480 bytes.
+const STAGING_MAX: usize = 512;
+const PREPARING: [&[u8]; 13] = [
     b"slots",
     b"card",
     b"chip",
     b"key",
     b"iv",
     b"attributes",
+    b"handle",
+    b"staging",
     b"poke",
     b"flip",
     b"keep",
@@ -35,6 +40,8 @@ pub struct Bench<'a> {
     key: Vec<u8>,
     iv: Vec<u8>,
     attributes: Attributes,
+    handle: HandleBytes,
+    staging: Vec<u8>,
     kept: [Option<(Vec<u8>, Vec<u8>)>; 4],
 }
 
@@ -47,14 +54,18 @@ impl Bench<'_> {
             key: b"the device's key".to_vec(),
             iv: b"the iv 8".to_vec(),
             attributes: Attributes::default(),
+            handle: Handle::ZERO,
+            staging: Vec::new(),
             kept: Default::default(),
         }
     }
 
-    fn area(&mut self, place: Place) -> &mut Vec<u8> {
+    fn area(&mut self, place: Place) -> &mut [u8] {
         match place {
             Place::Card => &mut self.card,
             Place::Chip => &mut self.chip,
+            Place::Handle => &mut self.handle,
+            Place::Staging => &mut self.staging,
         }
     }
 
@@ -84,6 +95,8 @@ impl Bench<'_> {
             b"key" => self.key = line.bytes_to(64)?,
             b"iv" => self.iv = line.bytes_to(64)?,
             b"attributes" => self.attributes = line.attributes()?,
+            b"handle" => self.handle = line.bytes()?.try_into().or_else(|_| refuse())?,
+            b"staging" => self.staging = line.bytes_to(STAGING_MAX)?,
             b"poke" => self.change(line, |_, byte| byte)?,
             b"flip" => self.change(line, |old, byte| old ^ byte)?,
             b"keep" => {
@@ -91,9 +104,13 @@ impl Bench<'_> {
                 self.kept[copy] = Some((self.card.clone(), self.chip.clone()));
             }
             b"put" => {
-                let place = line.place()?;
+                let place = line.medium()?;
                 let (card, chip) = self.copy(line)?;
-                *self.area(place) = if place == Place::Card { card } else { chip };
+                if place == Place::Card {
+                    self.card = card;
+                } else {
+                    self.chip = chip;
+                }
             }
             // Told by the product's program alone.
             _ => drop(line.field()?),
@@ -172,7 +189,33 @@ impl Bench<'_> {
                 start: line.number(u64::MAX)?,
                 name_buffer: line.bytes()?,
             },
+            b"start" | b"add" | b"finalize" => return self.incremental_call(line),
             _ => return self.key_call(line),
+        })
+    }
+
+    /// A call of the set whose data arrive in chunks, on the handle and staging
+    /// buffer of the lines before.
+    fn incremental_call(&self, line: &mut Line) -> Read<Call> {
+        let (handle, staging) = (self.handle, self.staging.clone());
+        Ok(match line.word {
+            b"start" => Call::SetStart {
+                name: line.bytes()?,
+                flags: flags(line)?,
+                iv: self.iv.clone(),
+                declared: line.number(u64::MAX)?,
+                handle,
+            },
+            b"add" => Call::SetAddData {
+                handle,
+                staging,
+                chunk: line.bytes()?,
+            },
+            _ => Call::SetFinalize {
+                key: self.key.clone(),
+                handle,
+                staging,
+            },
         })
     }
 
@@ -210,7 +253,11 @@ impl Bench<'_> {
         }
         let writes = matches!(
             call,
-            Call::Set { .. } | Call::Remove { .. } | Call::Reset | Call::KeepKey { .. }
+            Call::Set { .. }
+                | Call::Remove { .. }
+                | Call::Reset
+                | Call::KeepKey { .. }
+                | Call::SetFinalize { .. }
         );
         if answer.number != 0 || !writes {
             let card = show::first_difference("the card", &self.card, &answer.card);
@@ -220,6 +267,12 @@ impl Bench<'_> {
             }
         }
         (self.card, self.chip) = (answer.card.clone(), answer.chip.clone());
+        if let Call::SetStart { .. } | Call::SetAddData { .. } = call {
+            self.handle = answer.handle.clone().try_into().or_else(|_| refuse())?;
+        }
+        if let Call::SetAddData { .. } = call {
+            self.staging = answer.output.clone();
+        }
         Ok(answer)
     }
 
@@ -256,7 +309,7 @@ impl Bench<'_> {
     }
 
     fn bits(&mut self, line: &mut Line) -> Read<Vec<Value>> {
-        let (place, index) = (line.place()?, line.number::<usize>(SWEPT_MAX)?);
+        let (place, index) = (line.medium()?, line.number::<usize>(SWEPT_MAX)?);
         let count: usize = line.number(SWEPT_MAX)?;
         let call = self.swept_call(line)?;
         let bytes = self.area(place).get(index..index + count);
@@ -266,7 +319,7 @@ impl Bench<'_> {
     }
 
     fn each(&mut self, line: &mut Line) -> Read<Vec<Value>> {
-        let (place, index) = (line.place()?, line.number(SWEPT_MAX)?);
+        let (place, index) = (line.medium()?, line.number(SWEPT_MAX)?);
         let (first, last): (u8, u8) = (line.number(255)?, line.number(255)?);
         let call = self.swept_call(line)?;
         let there = index < self.area(place).len();
@@ -310,20 +363,21 @@ fn flags(line: &mut Line) -> Read<u32> {
     line.number(u32::MAX.into())
 }
 
+/// The number, and what the call hands back besides: how many numbers, its handle,
+/// and what it was lent to write.
 fn values(call: &Call, answer: &Answer) -> Vec<Value> {
-    let returned = match call {
-        Call::Info { .. } | Call::Walk { .. } => 2,
-        Call::Get { .. } | Call::LoadKey { .. } | Call::WriteKeyFile { .. } => 1,
-        _ => 0,
+    let (returned, handle, output) = match call {
+        Call::Info { .. } => (2, false, false),
+        Call::Walk { .. } => (2, false, true),
+        Call::Get { .. } | Call::LoadKey { .. } | Call::WriteKeyFile { .. } => (1, false, true),
+        Call::SetStart { .. } => (0, true, false),
+        Call::SetAddData { .. } => (0, true, true),
+        _ => (0, false, false),
     };
     let mut values = vec![Value::Number(answer.number.into())];
-    values.extend(
-        answer.returned[..returned]
-            .iter()
-            .map(|number| Value::Number(*number)),
-    );
-    if returned > 0 && !matches!(call, Call::Info { .. }) {
-        values.push(Value::Bytes(answer.output.clone()));
-    }
+    let numbers = answer.returned[..returned].iter();
+    values.extend(numbers.map(|number| Value::Number(*number)));
+    values.extend(handle.then(|| Value::Bytes(answer.handle.clone())));
+    values.extend(output.then(|| Value::Bytes(answer.output.clone())));
     values
 }

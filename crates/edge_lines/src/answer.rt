@@ -1,21 +1,22 @@
 // What a line's call answered, held against what the line expects.
 use crate::areas::front;
+use crate::areas::span;
 use crate::print;
 use crate::values::read_bytes;
 use std::num::wrapping_add_usize;
 use text::decimal::parse_decimal;
 use text::parts::field;
 
-// Up to three numbers, and perhaps bytes, which stand in a buffer beside it. Not `ok` is a line that cannot be read or carried out; `refused`, a call
-// whose status, the first number, is not 0; `changed`, one that was refused and yet changed card or chip.
+// Up to three numbers, and up to two runs of bytes, which stand one behind the other in a buffer beside it. Not `ok` is a line that cannot be read or carried
+// out; `refused`, a call whose status, the first number, is not 0; `changed`, one that was refused and yet changed card or chip.
 pub struct Answer {
     pub ok: bool,
     pub refused: bool,
     pub changed: bool,
     pub numbers: usize,
     pub values: [u64; 3],
-    pub has_bytes: bool,
-    pub count: usize,
+    pub runs: usize,
+    pub counts: [usize; 2],
 }
 
 impl Answer {
@@ -26,8 +27,8 @@ impl Answer {
             changed: false,
             numbers,
             values: [a, b, c],
-            has_bytes: false,
-            count: 0,
+            runs: 0,
+            counts: [0; 2],
         }
     }
 
@@ -51,11 +52,13 @@ impl Answer {
         more
     }
 
-    // With bytes besides.
+    // With a run of bytes besides.
     pub fn and_bytes(self, count: usize) -> Self {
+        let mut counts = self.counts;
+        counts[self.runs % 2] = count;
         let mut more = self;
-        more.has_bytes = true;
-        more.count = count;
+        more.runs = wrapping_add_usize(self.runs, 1);
+        more.counts = counts;
         more
     }
 }
@@ -69,40 +72,46 @@ fn number_matches(line: &[u8], k: usize, answer: Answer, i: usize) -> bool {
     expected.ok && expected.value == answer.values[i % 3]
 }
 
-// The bytes stand in the field behind the numbers.
-fn bytes_match(line: &[u8], k: usize, answer: Answer, out: &[u8]) -> bool {
-    if !answer.has_bytes {
+// Run i of the bytes.
+fn run(answer: Answer, i: usize, out: &[u8]) -> &[u8] {
+    let from = if i == 0 { 0 } else { answer.counts[0] };
+    span(out, from, answer.counts[i % 2])
+}
+
+// Whether run i of the bytes, where there is one, stands in field k + i.
+fn bytes_match(line: &[u8], k: usize, answer: Answer, i: usize, out: &[u8]) -> bool {
+    if answer.runs <= i {
         return true;
     }
     let mut expected = [0u8; 1024];
-    let read = read_bytes(
-        field(line, wrapping_add_usize(k, answer.numbers)),
-        &mut expected,
-    );
-    read.ok && check::same(front(&expected, read.count), front(out, answer.count))
+    let read = read_bytes(field(line, wrapping_add_usize(k, i)), &mut expected);
+    read.ok && check::same(front(&expected, read.count), run(answer, i, out))
 }
 
-// Whether the fields from k on, up to the last, are just the answer.
+// Whether the fields from k on, up to the last, are just the answer: its numbers, and behind them its bytes.
 pub fn matches(line: &[u8], k: usize, fields: usize, answer: Answer, out: &[u8]) -> bool {
     let end = wrapping_add_usize(k, answer.numbers);
-    let last = if answer.has_bytes {
-        wrapping_add_usize(end, 1)
-    } else {
-        end
-    };
     answer.ok
         && !answer.changed
-        && fields == last
+        && fields == wrapping_add_usize(end, answer.runs)
         && number_matches(line, k, answer, 0)
         && number_matches(line, k, answer, 1)
         && number_matches(line, k, answer, 2)
-        && bytes_match(line, k, answer, out)
+        && bytes_match(line, end, answer, 0, out)
+        && bytes_match(line, end, answer, 1, out)
 }
 
 fn print_number(answer: Answer, i: usize) {
     if i < answer.numbers {
         print::text(b"\t");
         print::number(answer.values[i % 3]);
+    }
+}
+
+fn print_run(answer: Answer, i: usize, out: &[u8]) {
+    if i < answer.runs {
+        print::text(b"\t");
+        print::bytes(run(answer, i, out));
     }
 }
 
@@ -118,9 +127,7 @@ pub fn print_answer(answer: Answer, out: &[u8]) {
     print_number(answer, 0);
     print_number(answer, 1);
     print_number(answer, 2);
-    if answer.has_bytes {
-        print::text(b"\t");
-        print::bytes(front(out, answer.count));
-    }
+    print_run(answer, 0, out);
+    print_run(answer, 1, out);
     print::text(b"\n");
 }

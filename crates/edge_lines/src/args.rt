@@ -21,12 +21,27 @@ fn number_arg(s: &[u8], most: u64) -> Coded {
     }
 }
 
-// 0 for the card, 1 for the chip.
-fn place_arg(s: &[u8]) -> Coded {
-    let chip = check::same(s, b"chip");
+// 0 for the card, 1 for the chip, 2 for the handle, 3 for the staging buffer; past the last where it is none of them.
+fn place_of(s: &[u8]) -> usize {
+    if check::same(s, b"card") {
+        0
+    } else if check::same(s, b"chip") {
+        1
+    } else if check::same(s, b"handle") {
+        2
+    } else if check::same(s, b"staging") {
+        3
+    } else {
+        4
+    }
+}
+
+// One of the first places.
+fn place_arg(s: &[u8], places: usize) -> Coded {
+    let place = place_of(s);
     Coded {
-        ok: chip || check::same(s, b"card"),
-        count: chip as usize,
+        ok: place < places,
+        count: place,
     }
 }
 
@@ -36,6 +51,8 @@ fn register(kind: u8, i: usize) -> usize {
         b'k' => memory::KEY,
         b'i' => memory::IV,
         b'a' => memory::ATTRIBUTES,
+        b'h' => memory::HANDLE,
+        b's' => memory::STAGING,
         b'o' => memory::LENT,
         b'z' => 0,
         _ => i,
@@ -46,7 +63,8 @@ fn read_arg(kind: u8, s: &[u8], i: usize, mem: &mut [u8]) -> Coded {
     match kind {
         b'n' => number_arg(s, 18446744073709551615),
         b'u' => number_arg(s, 4294967295),
-        b'p' => place_arg(s),
+        b'p' => place_arg(s, 2),
+        b'q' => place_arg(s, 4),
         b'x' | 0 => Coded { ok: true, count: 0 },
         _ => read_bytes(s, memory::reg_mut(mem, register(kind, i))),
     }

@@ -1,4 +1,4 @@
-// How many bytes card, chip, key and IV have, and those of the copies; and the words that prepare them.
+// How many bytes card, chip, key, IV and staging buffer have, and those of the copies; and the words that prepare them.
 use crate::areas::flip;
 use crate::areas::front;
 use crate::areas::part_mut;
@@ -15,11 +15,11 @@ use buffers::parts::clear;
 use std::num::wrapping_add_usize;
 use text::parts::field;
 
-// Lengths of the card (0) and the chip (1), and of both in each copy: one that no copy can have where there is none. Not `ok` is a line that could not
-// be carried out.
+// Lengths of the card (0), the chip (1), the handle (2) and the staging buffer (3); and of card and chip in each copy: one that no copy can have where there
+// is none. Not `ok` is a line that could not be carried out.
 pub struct Env {
     pub ok: bool,
-    pub lens: [usize; 2],
+    pub lens: [usize; 4],
     pub kept: [usize; 8],
     pub key: usize,
     pub iv: usize,
@@ -30,7 +30,7 @@ pub fn start(mem: &mut [u8]) -> Env {
     put(memory::reg_mut(mem, memory::IV), 0, b"the iv 8");
     Env {
         ok: true,
-        lens: [0; 2],
+        lens: [0, 0, 88, 0],
         kept: [MEDIA; 8],
         key: 16,
         iv: 8,
@@ -55,7 +55,7 @@ impl Env {
     // With n bytes at a place.
     fn with_len(self, place: usize, n: usize) -> Env {
         let mut lens = self.lens;
-        lens[place % 2] = n;
+        lens[place % 4] = n;
         let mut next = self;
         next.lens = lens;
         next
@@ -63,7 +63,7 @@ impl Env {
 
     // Whether n bytes stand from an index on.
     pub fn has(self, place: usize, at: usize, n: usize) -> bool {
-        let len = self.lens[place % 2];
+        let len = self.lens[place % 4];
         at <= len && n <= len - at
     }
 
@@ -105,7 +105,7 @@ fn change(flips: bool, args: Args, env: Env, mem: &mut [u8]) -> Env {
     }
     let mut data = [0u8; 1024];
     put(&mut data, 0, memory::reg(mem, 2, n));
-    let at = wrapping_add_usize(place % 2 * CHIP, args.values[1]);
+    let at = wrapping_add_usize(memory::place_at(place), args.values[1]);
     env.and_ok(write(flips, mem, at, front(&data, n)))
 }
 
@@ -155,6 +155,8 @@ fn set_up(word: Word, line: &[u8], len: usize, env: Env) -> Env {
         Word::Key => next.key = len,
         Word::Iv => next.iv = len,
         Word::Attributes => next.ok = env.ok && len == 20,
+        Word::Handle => next.ok = env.ok && len == 88,
+        Word::Staging => return env.with_len(3, len).and_ok(len <= 512),
         _ => {
             print::text(field(line, 1));
             print::text(b"\n");

@@ -2,16 +2,19 @@
 use crate::areas::byte_at;
 use text::parts::part;
 
-// A word, `=` where it answers, and the kind of each argument. Bytes are `b`, or `k`, `i` and `a` for the device key, the IV and the attributes, and `z`
-// for the name that is tried; a number is `n`, one of 32 bits `u`; a place `p`; the buffer that a call is lent `o`; what the word reads itself `x`.
-const WORDS: [u8; 229] = *b"slots .nn;\
+// A word, `=` where it answers, and the kind of each argument. Bytes are `b`, or `k`, `i`, `a`, `h` and `s` for the device key, the IV, the attributes, the
+// handle and the staging buffer, and `z` for the name that is tried; a number is `n`, one of 32 bits `u`; card or chip `p`, any place `q`; the buffer that a
+// call is lent `o`; what the word reads itself `x`.
+const WORDS: [u8; 279] = *b"slots .nn;\
     card .x;\
     chip .x;\
     key .k;\
     iv .i;\
     attributes .a;\
-    poke .pnb;\
-    flip .pnb;\
+    handle .h;\
+    staging .s;\
+    poke .qnb;\
+    flip .qnb;\
     keep .n;\
     put .pn;\
     say .x;\
@@ -24,13 +27,16 @@ const WORDS: [u8; 229] = *b"slots .nn;\
     save =ubu;\
     load =uo;\
     format =bo;\
-    at =pn;\
+    start =bun;\
+    add =b;\
+    finalize =;\
+    at =qn;\
     same =n;\
     fill =nub;\
     bits =pnnxz;\
     each =pnnnxz";
 
-const COUNT: usize = 25;
+const COUNT: usize = 30;
 
 pub enum Word {
     Slots,
@@ -39,6 +45,8 @@ pub enum Word {
     Key,
     Iv,
     Attributes,
+    Handle,
+    Staging,
     Poke,
     Flip,
     Keep,
@@ -53,6 +61,9 @@ pub enum Word {
     Save,
     Load,
     Format,
+    Start,
+    Add,
+    Finalize,
     At,
     Same,
     Fill,
@@ -94,30 +105,35 @@ pub fn preparing(index: usize) -> Word {
         3 => Word::Key,
         4 => Word::Iv,
         5 => Word::Attributes,
-        6 => Word::Poke,
-        7 => Word::Flip,
-        8 => Word::Keep,
-        9 => Word::Put,
+        6 => Word::Handle,
+        7 => Word::Staging,
+        8 => Word::Poke,
+        9 => Word::Flip,
+        10 => Word::Keep,
+        11 => Word::Put,
         _ => Word::Say,
     }
 }
 
 pub fn answering(index: usize) -> Word {
     match index {
-        11 => Word::Set,
-        12 => Word::Get,
-        13 => Word::Info,
-        14 => Word::Remove,
-        15 => Word::Reset,
-        16 => Word::Next,
-        17 => Word::Save,
-        18 => Word::Load,
-        19 => Word::Format,
-        20 => Word::At,
-        21 => Word::Same,
-        22 => Word::Fill,
-        23 => Word::Bits,
-        24 => Word::Each,
+        13 => Word::Set,
+        14 => Word::Get,
+        15 => Word::Info,
+        16 => Word::Remove,
+        17 => Word::Reset,
+        18 => Word::Next,
+        19 => Word::Save,
+        20 => Word::Load,
+        21 => Word::Format,
+        22 => Word::Start,
+        23 => Word::Add,
+        24 => Word::Finalize,
+        25 => Word::At,
+        26 => Word::Same,
+        27 => Word::Fill,
+        28 => Word::Bits,
+        29 => Word::Each,
         _ => Word::Unknown,
     }
 }

@@ -1,4 +1,4 @@
-// The calls, on the card, chip, key and IV that last, with a line's arguments. What a call may write is lent as a copy, and put back.
+// The calls, on the card, chip, key, IV, handle and staging buffer that last, with a line's arguments. What a call may write is lent as a copy, and put back.
 use buffers::numbers::le_at;
 use edge_lines::answer::Answer;
 use edge_lines::areas::front;
@@ -14,6 +14,9 @@ use edge_lines::state::Env;
 use edge_lines::words::Word;
 use keys::key_file::KeyAttributes;
 use store::answers::Got;
+use store::handle::decode_handle;
+use store::handle::encode_handle;
+use store::incremental::SetProgress;
 
 fn narrow(n: usize) -> u32 {
     (n % 4294967296) as u32
@@ -65,6 +68,22 @@ fn save(args: Args, env: Env, mem: &[u8], kv: &mut [u8], rbp: &mut [u8]) -> u32 
     )
 }
 
+fn handle_bytes(mem: &[u8]) -> [u8; 88] {
+    let mut bytes = [0u8; 88];
+    put(&mut bytes, 0, reg(mem, memory::HANDLE, 88));
+    bytes
+}
+
+fn finalize(env: Env, mem: &[u8], kv: &mut [u8], rbp: &mut [u8]) -> u32 {
+    store::incremental::set_finalize(
+        kv,
+        rbp,
+        reg(mem, memory::KEY, env.key),
+        decode_handle(handle_bytes(mem)),
+        reg(mem, memory::STAGING, env.lens[3]),
+    )
+}
+
 fn write_status(
     word: Word,
     args: Args,
@@ -77,6 +96,7 @@ fn write_status(
         Word::Set => set(args, env, mem, kv, rbp),
         Word::Remove => store::remove::remove(kv, rbp, reg(mem, 0, args.values[0])),
         Word::Save => save(args, env, mem, kv, rbp),
+        Word::Finalize => finalize(env, mem, kv, rbp),
         _ => store::reset::reset(kv, rbp),
     }
 }
@@ -169,11 +189,47 @@ fn read_call(word: Word, args: Args, n: usize, env: Env, mem: &mut [u8]) -> Answ
     answer.and_bytes(n)
 }
 
+// The handle that a call handed back lasts, and its bytes are part of the answer.
+fn keep_handle(progress: SetProgress, mem: &mut [u8]) -> Answer {
+    let handle = progress.handle;
+    let bytes = encode_handle(handle);
+    put(memory::reg_mut(mem, memory::HANDLE), 0, &bytes);
+    put(memory::reg_mut(mem, memory::LENT), 0, &bytes);
+    Answer::call(1, wide(progress.status), 0, 0).and_bytes(88)
+}
+
+fn start(args: Args, env: Env, mem: &mut [u8]) -> Answer {
+    let progress = store::incremental::set_start(
+        reg(mem, 0, args.values[0]),
+        narrow(args.values[1]),
+        reg(mem, memory::IV, env.iv),
+        args.values[2],
+    );
+    keep_handle(progress, mem)
+}
+
+// The staging buffer's bytes stand behind the handle's in the answer.
+fn add(args: Args, env: Env, mem: &mut [u8]) -> Answer {
+    let n = env.lens[3];
+    let mut staging = [0u8; 512];
+    put(&mut staging, 0, reg(mem, memory::STAGING, n));
+    let progress = store::incremental::set_add_data(
+        decode_handle(handle_bytes(mem)),
+        front_mut(&mut staging, n),
+        reg(mem, 0, args.values[0]),
+    );
+    put(memory::reg_mut(mem, memory::STAGING), 0, &staging);
+    put(memory::reg_mut(mem, memory::LENT), 88, &staging);
+    keep_handle(progress, mem).and_bytes(n)
+}
+
 fn call(word: Word, args: Args, env: Env, mem: &mut [u8]) -> Answer {
     match word {
         Word::Get | Word::Next => read_call(word, args, args.values[2], env, mem),
         Word::Load | Word::Format => read_call(word, args, args.values[1], env, mem),
         Word::Info => info(args, env, mem),
+        Word::Start => start(args, env, mem),
+        Word::Add => add(args, env, mem),
         _ => Answer::call(1, wide(write_call(word, args, env, mem)), 0, 0),
     }
 }

@@ -26,7 +26,7 @@ const MIXED: u64 = 4294967295;
 pub fn at(line: &[u8], args: Args, env: Env, mem: &mut [u8]) -> Answer {
     let mut bytes = [0u8; 1024];
     let read = read_bytes(field(line, 4), &mut bytes);
-    let from = wrapping_add_usize(args.values[0] % 2 * CHIP, args.values[1]);
+    let from = wrapping_add_usize(memory::place_at(args.values[0]), args.values[1]);
     put(&mut bytes, 0, span(mem, from, read.count));
     put(memory::reg_mut(mem, memory::LENT), 0, &bytes);
     if read.ok && env.has(args.values[0], args.values[1], read.count) {
@@ -109,7 +109,7 @@ fn trial(
     sweep: Sweep,
     i: usize,
     base: usize,
-    index: usize,
+    word: Word,
     args: Args,
     env: Env,
     mem: &mut [u8],
@@ -117,7 +117,7 @@ fn trial(
     let at = wrapping_add_usize(base, index_at(sweep, i));
     let mask = mask_at(sweep, i, byte_at(mem, at));
     flip_byte(mem, at, mask);
-    let answer = calls::checked_call(words::answering(index), args, env, mem);
+    let answer = calls::checked_call(word, args, env, mem);
     flip_byte(mem, at, mask);
     if answer.changed {
         MIXED
@@ -131,15 +131,15 @@ fn trials(
     sweep: Sweep,
     n: usize,
     base: usize,
-    index: usize,
+    word: Word,
     args: Args,
     env: Env,
     mem: &mut [u8],
 ) -> u64 {
-    let mut common = trial(sweep, 0, base, index, args, env, mem);
+    let mut common = trial(sweep, 0, base, word, args, env, mem);
     let mut i = 0;
     while i < n {
-        if common != trial(sweep, i, base, index, args, env, mem) {
+        if common != trial(sweep, i, base, word, args, env, mem) {
             common = MIXED;
         }
         i += 1;
@@ -147,15 +147,26 @@ fn trials(
     common
 }
 
-// Whether every byte that is changed stands there, and there is one; and the call is one of set, get, info and remove.
-fn can_sweep(sweep: Sweep, index: usize, len: usize) -> bool {
+// The calls that a sweep tries.
+fn is_swept(word: Word) -> bool {
+    match word {
+        Word::Set | Word::Get | Word::Info | Word::Remove => true,
+        _ => false,
+    }
+}
+
+// Whether every byte that is changed stands there, and there is one.
+fn can_sweep(sweep: Sweep, word: Word, len: usize) -> bool {
     let last = wrapping_sub_usize(sweep.count, 1);
-    11 <= index && index <= 14 && last < 524288 && index_at(sweep, last) < len
+    is_swept(word) && last < 524288 && index_at(sweep, last) < len
 }
 
 // The arguments of a sweep's call: its name; for a get all of the output, for a set flags 0 and no data.
-fn trial_args(index: usize, name: usize) -> Args {
-    let len = if index == 12 { 480 } else { 0 };
+fn trial_args(word: Word, name: usize) -> Args {
+    let len = match word {
+        Word::Get => 480,
+        _ => 0,
+    };
     Args {
         ok: true,
         values: [name, 0, len, 0, 0, 0],
@@ -171,14 +182,14 @@ pub fn run_sweep(
     env: Env,
     mem: &mut [u8],
 ) -> Answer {
-    let index = words::index_of(field(line, k));
+    let word = words::answering(words::index_of(field(line, k)));
     let sweep = sweep_of(bits, args);
     let place = args.values[0] % 2;
-    if !can_sweep(sweep, index, env.lens[place]) {
+    if !can_sweep(sweep, word, env.lens[place]) {
         return Answer::unreadable();
     }
-    let tried = trial_args(index, args.values[k % 6]);
-    let status = trials(sweep, sweep.count, place * CHIP, index, tried, env, mem);
+    let tried = trial_args(word, args.values[k % 6]);
+    let status = trials(sweep, sweep.count, place * CHIP, word, tried, env, mem);
     Answer::call(1, status, 0, 0)
 }
 

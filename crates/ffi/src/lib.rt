@@ -8,5 +8,6 @@
 // - not use what is lent from another thread or an interrupt while the call runs.
 // Nothing else is assumed: every other argument has an answer.
 pub mod cipher_calls;
+pub mod incremental_calls;
 pub mod key_calls;
 pub mod store_calls;

@@ -11,12 +11,13 @@ use Rattle.spec.specs.Request.{Request, found, statusOf, run}
 use Rattle.spec.specs.Decisions.{setHeld, getHeld, removeHeld, setRequest, getRequest, getInfoRequest, removeRequest}
 use Rattle.spec.specs.Calls.{Areas, areas, areaLengths, storeWorld, storeSet, storeGet, storeGetInfo}
 use Rattle.spec.specs.Calls.{storeRemove, storeReset, iteratorTests, storeIteratorNext}
+use Rattle.spec.specs.Incremental.{zeroHandle, newHandle, startTests, setStart, staged, addTests, setAddData, finalizeRequest, storeSetFinalize}
 use Rattle.spec.specs.Demand1.{Well, Demand1}
 use Rattle.spec.proofs.Status.{number, first-listed, on-refused}
 use Rattle.spec.proofs.World.{order}
 
 -- an answer and areas that hang on a status
-pub well : (n status : ℕ) (numbers written lent : List ℕ) (s t : Areas) → isListed status ≡ true → length numbers ≡ n
+pub well : {State : Type 0} (n status : ℕ) (numbers written lent : List ℕ) (s t : State) → isListed status ≡ true → length numbers ≡ n
     → Well n lent s (record { answer = answerOf status numbers written lent; after = onOk status t s })
 well n status numbers written lent s t l e = record {
   listed = l;
@@ -33,7 +34,8 @@ run-well n s q l e =
     well n (statusOf storeWorld s q) (q .numbers b) (q .output b) (q .lent) s (storeWorld .edit s (q .name) (q .effect b)) (first-listed tests l) e
 
 pub demand1-holds : Demand1
-unfolding storeSet storeGet storeGetInfo storeRemove storeReset storeIteratorNext isListed setHeld getHeld removeHeld
+unfolding storeSet storeGet storeGetInfo storeRemove storeReset storeIteratorNext setStart setAddData storeSetFinalize
+    isListed setHeld getHeld removeHeld
 demand1-holds = record {
   of-set = λ kv rbp key name flags iv value. run-well 0 (areas kv rbp) (setRequest requireReplayProtection key name flags iv value) refl refl;
   of-get = λ kv rbp key name offset output. run-well 1 (areas kv rbp) (getRequest requireReplayProtection key name offset output) refl refl;
@@ -44,4 +46,7 @@ demand1-holds = record {
       let w = well 2 (firstOf (iteratorTests kv rbp prefix start nameBuf)) (_ ∷ _ ∷ []) _ nameBuf (areas kv rbp) (areas kv rbp)
       (first-listed (iteratorTests kv rbp prefix start nameBuf) refl) refl in
       record { listed = w .listed; numbers = w .numbers; output = w .output; after = λ h. refl };
+  of-setStart = λ name flags iv size. well 0 _ [] [] [] zeroHandle (newHandle name flags iv size) (first-listed (startTests name iv size) refl) refl;
+  of-setAddData = λ h staging chunk. well 0 _ [] [] [] (staged h staging) _ (first-listed (addTests h staging chunk) refl) refl;
+  of-setFinalize = λ kv rbp key h staging. run-well 0 (areas kv rbp) (finalizeRequest requireReplayProtection key h staging) refl refl;
 }

@@ -59,7 +59,7 @@ module _ (s : Areas) (q : Request) (L : Lawful q) where
       let a = accepted s (q .early) (q .tests b (roomOf (s .kv) (s .rbp))) (L .numbered s b (roomOf (s .kv) (s .rbp))) h in
       let u = a .undamaged in
       let g = L .good b (roomOf (s .kv) (s .rbp)) (a .lengths) (a .rest) in
-      let n = L .needs b (roomOf (s .kv) (s .rbp)) (a .rest) in
+      let n = L .needs b (roomOf (s .kv) (s .rbp)) (a .lengths) (a .rest) in
       record {
         undamaged = u;
         kv-sound = kv-sound-of u;
@@ -125,9 +125,9 @@ module _ (u v : List Name) (kvSize rbpSize : ℕ) (mine : Side → Bool) (Mine :
         let b = found storeWorld s q in
         let tests = q .tests b (roomOf (s .kv) (s .rbp)) in
         own-tests s (q .early) tests sane
-        ∙ under (q .early) tests (q .tests b enough) (lawful c .roomless b (roomOf (s .kv) (s .rbp))
+        ∙ lawful c .roomless b (roomOf (s .kv) (s .rbp))
         (λ i. roomy-space kvFormat u (s .kv) (callName c) (o .kv-sound) (o .kv-roomy) (a .kv-listed i))
-        (λ i. roomy-space rbpFormat v (s .rbp) (callName c) (o .rbp-sound) (o .rbp-roomy) (a .rbp-listed i)))
+        (λ i. roomy-space rbpFormat v (s .rbp) (callName c) (o .rbp-sound) (o .rbp-roomy) (a .rbp-listed i))
 
   agreeing : Agreeing storeWorld modelWorld requestOf mine Mine Ok Allowed
   agreeing = record {

@@ -15,6 +15,7 @@ pub mod Remove
 pub mod Reset
 pub mod Iterator
 pub mod Refusals
+pub mod IncrementalSet
 pub mod Demand1
 pub mod Interleaving
 pub mod Model

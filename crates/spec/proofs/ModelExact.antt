@@ -1,20 +1,25 @@
 -- The steps of demand 3 are the calls; and the reference model keeps demand 2's rules.
 use mathlib.Core.Path.{_≡_, refl, sym, ap, _∙_}
 use mathlib.Core.Logic.{_≢_}
-use mathlib.Core.Bool.{cond}
-use mathlib.Core.List.{List, _++_}
+use mathlib.Core.Bool.{true, cond, not}
+use mathlib.Core.List.{List, [], _∷_, _++_}
 use mathlib.Core.Option.{none, some}
 use Prim.Native.Nat.{ℕ}
-use borrow.Author.Tests.{eqb-true}
+use native.Mathlib.Omega.{arith}
+use borrow.Author.Tests.{eqb-true, eq-eqb, le-leb}
+use lib.Dec.{eqb, leb}
 use lib.ListN.{length}
-use Rattle.spec.specs.Status.{ok, firstOf}
+use Rattle.spec.specs.Status.{ok, _when_, refuseIf, firstOf}
 use Rattle.spec.specs.Name.{Name}
 use Rattle.spec.specs.Record.{requireReplayProtection, flagsOf, tagOf, encKey, crypt, sealRecord, plaintext, Sealable}
 use Rattle.spec.specs.Area.{kvFormat, rbpFormat, keep, write, clear}
 use Rattle.spec.specs.Request.{Effect, statusOf, run}
-use Rattle.spec.specs.Decisions.{recordOf, setHeld, setEffect, readCount, readOutput, removeEffect}
+use Rattle.spec.specs.Decisions.{keySized, ivSized, recordOf, setHeld, setTests, setEffect, readCount, readOutput, removeEffect}
 use Rattle.spec.specs.Calls.{areas, bindingOf, roomOf, storeWorld, storeSet, storeGet, storeGetInfo, storeRemove}
-use Rattle.spec.specs.Model.{Call, setCall, getCall, getInfoCall, removeCall, requestOf, callName, Model, modelBinding, modelEdit, modelWorld}
+use Rattle.spec.specs.Model.{Call, setCall, getCall, getInfoCall, removeCall, finalizeCall, requestOf, callName}
+use Rattle.spec.specs.Model.{Model, modelBinding, modelEdit, modelWorld}
+use Rattle.spec.specs.Incremental.{handleName, stagedData, stagingSized, nameFits, storeSetFinalize}
+use Rattle.spec.specs.declared.incremental.IncSetHandle.{IncSetHandle}
 use Rattle.spec.specs.Demand2.{Undamaged, FreeSlot, recordMade}
 use Rattle.spec.specs.Demand3.{StepIsCall, after, reply, ModelSets, ModelRemoves, ModelExact}
 use Rattle.buffers.proofs.Split.{not-false-is}
@@ -25,15 +30,19 @@ use Rattle.spec.proofs.Decision.{decided, decided-sealable}
 use Rattle.spec.proofs.Set.{sealed-bytes, tag-bytes, has-space}
 use Rattle.spec.proofs.Model.{table-same, table-other, model-start}
 use Rattle.spec.proofs.Lawful.{enough}
+use Rattle.spec.proofs.IncrementalSet.{finalize-run, in-order}
 
-pub step-is-call : (kv rbp key name : List ℕ) (flags offset : ℕ) (iv value output : List ℕ) → StepIsCall kv rbp key name flags offset iv value output
-unfolding storeSet storeGet storeGetInfo storeRemove
-step-is-call kv rbp key name flags offset iv value output = record {
+pub step-is-call : (kv rbp key name : List ℕ) (flags offset : ℕ) (iv value output : List ℕ) (h : IncSetHandle) (staging : List ℕ)
+    → StepIsCall kv rbp key name flags offset iv value output h staging
+unfolding storeSet storeGet storeGetInfo storeRemove storeSetFinalize
+step-is-call kv rbp key name flags offset iv value output h staging = record {
   of-set = refl;
   of-get = refl;
   of-getInfo = refl;
   of-remove = refl;
+  of-finalize = refl;
   each = (refl, refl, refl);
+  finalize-sets = (refl, refl, refl);
 }
 
 edit-other : (m : Model) (n name : Name) (x : Effect) → n ≢ name → modelBinding (modelEdit m name x) n ≡ modelBinding m n
@@ -98,6 +107,21 @@ module _ (m : Model) (name r : List ℕ) (h : reply m (removeCall name) .status 
   removes : ModelRemoves m name r (after m (removeCall name) name)
   removes = record { stored = stored-out; tag = λ e. tag-out ∙ rw e; tag-kept = λ e. tag-out ∙ rw e }
 
+-- a finalize's own tests, then a set's
+finalize-number : (m : Model) (key : List ℕ) (h : IncSetHandle) (staging : List ℕ) → length (h .iv) ≡ 8
+    → let set = setCall key (handleName h) (h .flags) (h .iv) (stagedData h staging) in
+    reply m (finalizeCall key h staging) .status
+    ≡ firstOf ((1 when not (eqb (length key) 16)) ∷ (1 when not (eqb (length staging) 480)) ∷ (19 when not (leb (h .«name_len») 64))
+    ∷ (19 when not (leb (h .«final_data_size») 480)) ∷ (19 when not (eqb (h .offset) (h .«final_data_size»))) ∷ (reply m set .status when true) ∷ [])
+unfolding refuseIf
+finalize-number m key h staging i =
+    let name = handleName h in
+    in-order true true (keySized key) (ivSized (h .iv)) (stagingSized staging) (nameFits h) (leb (h .«final_data_size») 480)
+    (leb (h .offset) (h .«final_data_size»)) (eqb (h .offset) (h .«final_data_size»))
+    (firstOf (setTests requireReplayProtection name (h .flags) (stagedData h staging) (modelBinding m name) enough))
+    (eq-eqb (length (h .iv)) 8 i)
+    (λ e. let z = eqb-true (h .offset) (h .«final_data_size») e in le-leb (h .offset) (h .«final_data_size») (omega arith))
+
 pub model-exact : ModelExact
 unfolding readCount readOutput plaintext crypt encKey
 model-exact = record {
@@ -110,5 +134,7 @@ model-exact = record {
   sets = sets;
   removes = removes;
   gets = λ m key name offset output r h held. run-done modelWorld m (requestOf (getCall key name offset output)) h ∙ rw held;
+  finalizes = λ m key h staging c. finalize-run modelWorld m requireReplayProtection key h staging c;
+  finalize-number = finalize-number;
   infos = λ m key name r h held. run-done modelWorld m (requestOf (getInfoCall key name)) h ∙ rw held;
 }

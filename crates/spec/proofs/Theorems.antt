@@ -3,6 +3,8 @@ use mathlib.Core.List.{List}
 use Prim.Native.Nat.{ℕ}
 use Rattle.spec.specs.Demand1.{Demand1}
 use Rattle.spec.specs.Demand2.{Demand2}
+use Rattle.spec.specs.IncrementalExact.{Incremental}
+use Rattle.spec.specs.declared.incremental.IncSetHandle.{IncSetHandle}
 use Rattle.spec.specs.Demand3.{ClientIsolation, StepIsCall, ModelExact, Instance}
 use Rattle.spec.specs.Shapes.{Shapes}
 use Rattle.spec.specs.Edges.{Edges, Numerals}
@@ -14,6 +16,7 @@ use Rattle.spec.proofs.Remove.{remove-exact}
 use Rattle.spec.proofs.Reset.{reset-exact}
 use Rattle.spec.proofs.Iterator.{iterator-exact}
 use Rattle.spec.proofs.Refusals.{refusals}
+use Rattle.spec.proofs.IncrementalSet.{incremental}
 use Rattle.spec.proofs.Isolation.{client-isolation}
 use Rattle.spec.proofs.ModelExact.{step-is-call, model-exact}
 use Rattle.spec.proofs.Instance.{instance}
@@ -36,10 +39,14 @@ demand2 = record {
   refusals = refusals;
 }
 
+pub in-chunks : Incremental
+in-chunks = incremental
+
 pub demand3 : ClientIsolation
 demand3 = client-isolation
 
-pub steps : (kv rbp key name : List ℕ) (flags offset : ℕ) (iv value output : List ℕ) → StepIsCall kv rbp key name flags offset iv value output
+pub steps : (kv rbp key name : List ℕ) (flags offset : ℕ) (iv value output : List ℕ) (h : IncSetHandle) (staging : List ℕ)
+    → StepIsCall kv rbp key name flags offset iv value output h staging
 steps = step-is-call
 
 pub model : ModelExact

@@ -1,7 +1,7 @@
 -- The laws that pin the words of the statements.
 use mathlib.Core.Path.{_≡_, refl, sym, ap, _∙_}
-use mathlib.Core.Logic.{inl, inr}
-use mathlib.Core.Bool.{true, false}
+use mathlib.Core.Logic.{_⊎_, inl, inr}
+use mathlib.Core.Bool.{Bool, true, false, _||_}
 use mathlib.Core.List.{List, [], _∷_, _++_, flatten, List·Memᴰ, List·Memᴰ·head, List·Memᴰ·tail, List·Memᴰ·cases-cons, Memᴰ·cast}
 use mathlib.Core.Option.{Option, some}
 use Prim.Native.Nat.{ℕ, zero, suc, _+_, _*_, _≤_, _<_}
@@ -34,16 +34,33 @@ among : (n k s : ℕ) → n ≤ s → s < n + k → any (eqb s) (from n k) ≡ t
 among n zero s h j = absurd (omega arith)
 among n (suc k) s h j = split (eqb s n) (λ e. rw e) (λ e. let z = eqb-false s n e in rw e (among (suc n) k s (omega arith) (omega arith)))
 
-bounded : (s k : ℕ) (l : List ℕ) → every (λ n. leb n k) l ≡ true → any (eqb s) l ≡ true → s ≤ k
-bounded s k [] b h = clash false h refl
-bounded s k (n ∷ l) b h =
-    let p = both (leb n k) (every (λ n. leb n k) l) b in
-    split (eqb s n) (λ e. rw (eqb-true s n e) (leb-true n k (p .0))) (λ e. bounded s k l (p .1) (rw e at h))
+any-front : (P : ℕ → Bool) (l m : List ℕ) → any P l ≡ true → any P (l ++ m) ≡ true
+any-front P [] m h = clash false h refl
+any-front P (n ∷ l) m h = split (P n) (λ e. rw e) (λ e. rw e (any-front P l m (rw e at h)))
+
+-- a number of a list has what all of the list have
+one-of : (P : ℕ → Bool) (s : ℕ) (l : List ℕ) → every P l ≡ true → any (eqb s) l ≡ true → P s ≡ true
+one-of P s [] b h = clash false h refl
+one-of P s (n ∷ l) b h =
+    let p = both (P n) (every P l) b in
+    split (eqb s n) (λ e. rw (eqb-true s n e) (p .0)) (λ e. one-of P s l (p .1) (rw e at h))
+
+-- 0 to 14, and what 02 adds
+listed-is : (s : ℕ) → isListed s ≡ true → (s ≤ 14) ⊎ (s ≡ 19)
+unfolding isListed
+listed-is s h =
+    let t = one-of (λ n. leb n 14 || eqb n 19) s statusTable refl h in
+    split (leb s 14) (λ e. inl (leb-true s 14 e)) (λ e. inr (eqb-true s 19 (rw e at t)))
+
+is-listed : (s : ℕ) → (s ≤ 14) ⊎ (s ≡ 19) → isListed s ≡ true
+unfolding isListed
+is-listed s (inl h) = any-front (eqb s) (from 0 15) (19 ∷ []) (among 0 15 s (omega arith) (omega arith))
+is-listed s (inr h) = rw h
 
 test-laws : TestLaws
-unfolding isListed refuseIf
+unfolding refuseIf
 test-laws = record {
-  listed = λ s. (bounded s 14 statusTable refl, λ h. among 0 15 s (omega arith) (omega arith));
+  listed = λ s. (listed-is s, is-listed s);
   none-says = refl;
   says = λ n rest. refl;
   passes = λ n rest. refl;
@@ -158,6 +175,8 @@ vocabulary-holds = record {
   distinct-names = dedup-laws;
   both = λ kv rbp. refl;
   contents = λ kv rbp name. refl;
+  chunked = λ h staging. refl;
+  all-zero = refl;
   kv-slots = slot-laws kvFormat (omega arith);
   rbp-slots = slot-laws rbpFormat (omega arith);
   runs = run-laws;

@@ -28,12 +28,12 @@ use Rattle.spec.specs.Decisions.{tagMatches}
 use Rattle.spec.specs.Calls.{Areas, areas, storeSet, storeGet, storeGetInfo, storeRemove, storeReset, storeIteratorNext}
 
 -- 0 is answered exactly under a condition, and then something holds
-pub record Exact (o : Outcome Areas Answer) (When : Type 0) (Gives : When → Type 0) : Type 0 where
+pub record Exact {State : Type 0} (o : Outcome State Answer) (When : Type 0) (Gives : When → Type 0) : Type 0 where
   pub condition : (o .answer .status ≡ 0) ↔ When
   pub gives : (h : When) → Gives h
 
--- what a call is that is done, gives these numbers, and leaves these bytes in its output, and these in card and chip
-abbrev pub done : Areas → List ℕ → List ℕ → Outcome Areas Answer
+-- what a call is that is done, gives these numbers, and leaves these bytes in its output, and these in card and chip or in what it hands on
+abbrev pub done : {State : Type 0} → State → List ℕ → List ℕ → Outcome State Answer
 done s numbers output = record { answer = record { status = 0; numbers = numbers; output = output }; after = s }
 
 -- card and chip are undamaged: "they have right lengths and no damage"

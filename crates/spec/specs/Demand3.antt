@@ -5,12 +5,13 @@
 --   Instance                                       a merge that meets the premise, and what it is answered
 use mathlib.Core.Path.{_≡_}
 use mathlib.Core.Logic.{_≢_}
-use mathlib.Core.Bool.{Bool, true, false, cond, _&&_}
+use mathlib.Core.Bool.{Bool, true, false, cond, not, _&&_}
 use mathlib.Core.List.{List, [], _∷_, _++_, map, flatten, List·Memᴰ}
 use mathlib.Core.Option.{none, some}
 use Prim.Native.Nat.{ℕ, _-_, _≤_, min}
+use lib.Dec.{eqb, leb}
 use lib.ListN.{length, take, drop, replicate}
-use Rattle.spec.specs.Status.{Answer}
+use Rattle.spec.specs.Status.{_when_, firstOf, Answer}
 use Rattle.spec.specs.Name.{Name, validName}
 use Rattle.spec.specs.Record.{requireReplayProtection, dataSizeOf, flagsOf}
 use Rattle.spec.specs.Slots.{dedup}
@@ -18,8 +19,12 @@ use Rattle.spec.specs.Area.{Format, kvFormat, rbpFormat, slotCount, name
 use Rattle.spec.specs.Request.{Binding}
 use Rattle.spec.specs.Calls.{Areas, areas, bindingOf, storeSet, storeGet, storeGetInfo, storeRemove}
 use Rattle.spec.specs.Interleaving.{left, right, Tagged, by, Interleaving, lefts, rights, answers, final, sharedStep}
-use Rattle.spec.specs.Model.{Call, setCall, getCall, getInfoCall, removeCall, requestOf, callName, Model, modelOf, modelBinding, modelStep, storeStep}
+use Rattle.spec.specs.Model.{Call, setCall, getCall, getInfoCall, removeCall, finalizeCall, requestOf, callName}
+use Rattle.spec.specs.Model.{Model, modelOf, modelBinding, modelStep, storeStep}
+use Rattle.spec.specs.Incremental.{storeSetFinalize}
 use Rattle.spec.specs.Demand2.{Undamaged, FreeSlot, opened, recordMade, tagMade}
+use Rattle.spec.specs.IncrementalExact.{Complete}
+use Rattle.spec.specs.declared.incremental.IncSetHandle.{IncSetHandle}
 
 -- a byte string is given as a name, good or bad, by a call of the list
 abbrev pub Names : List Call → Name → Type 0
@@ -67,14 +72,20 @@ abbrev pub ClientIsolation : Type 0
 ClientIsolation = (kv rbp : List ℕ) (ls rs : List Call) (l : List (Tagged Call)) → Interleaving ls rs l → IsolationPremise kv rbp ls rs → Isolated kv rbp ls rs l
 
 -- the store's step is the calls themselves; each call's name; "a name set is a good one that a set call of either list gives, accepted or refused"
-pub record StepIsCall (kv rbp key name : List ℕ) (flags offset : ℕ) (iv value output : List ℕ) : Type 0 where
+pub record StepIsCall (kv rbp key name : List ℕ) (flags offset : ℕ) (iv value output : List ℕ) (h : IncSetHandle) (staging : List ℕ) : Type 0 where
   pub of-set : storeStep (areas kv rbp) (setCall key name flags iv value) ≡ storeSet kv rbp key name flags iv value
   pub of-get : storeStep (areas kv rbp) (getCall key name offset output) ≡ storeGet kv rbp key name offset output
   pub of-getInfo : storeStep (areas kv rbp) (getInfoCall key name) ≡ storeGetInfo kv rbp key name
   pub of-remove : storeStep (areas kv rbp) (removeCall name) ≡ storeRemove kv rbp name
+  pub of-finalize : storeStep (areas kv rbp) (finalizeCall key h staging) ≡ storeSetFinalize kv rbp key h staging
   pub each : let cs = setCall key name flags iv value ∷ getCall key name offset output ∷ getInfoCall key name ∷ removeCall name ∷ [] in
       (map callName cs ≡ name ∷ name ∷ name ∷ name ∷ []) × (map isSet cs ≡ validName name ∷ false ∷ false ∷ false ∷ [])
       × (map isProtectedSet cs ≡ (validName name && requireReplayProtection flags) ∷ false ∷ false ∷ false ∷ [])
+  -- "Demand 3 counts the finish as a set": of the handle's name, whose length is not over 64
+  pub finalize-sets : let c = finalizeCall key h staging in
+      let held = take (h .«name_len») (h .name) in
+      (callName c ≡ held) × (isSet c ≡ (leb (h .«name_len») 64 && validName held))
+      × (isProtectedSet c ≡ (leb (h .«name_len») 64 && (validName held && requireReplayProtection (h .flags))))
 
 -- ---- the reference model
 
@@ -119,18 +130,31 @@ pub record ModelExact : Type 0 where
   pub gets : (m : Model) (key name : List ℕ) (offset : ℕ) (output r : List ℕ) → let c = getCall key name offset output in
       reply m c .status ≡ 0 → modelBinding m name .stored ≡ some r → let count = min (length output) (dataSizeOf r - offset) in
       modelStep m c ≡ record { answer = record { status = 0; numbers = count ∷ []; output = take count (drop offset (opened key name r)) ++ drop count output }; after = m }
+  -- "Demand 3 counts the finish as a set lent just the bytes then held; the book [..] makes their tests for 1 and 19."
+  pub finalizes : (m : Model) (key : List ℕ) (h : IncSetHandle) (staging : List ℕ) → Complete h staging
+      → modelStep m (finalizeCall key h staging) ≡ modelStep m (setCall key (take (h .«name_len») (h .name)) (h .flags) (h .iv) (take (h .offset) staging))
+  pub finalize-number : (m : Model) (key : List ℕ) (h : IncSetHandle) (staging : List ℕ) → length (h .iv) ≡ 8 → let c = finalizeCall key h staging in
+      let set = setCall key (take (h .«name_len») (h .name)) (h .flags) (h .iv) (take (h .offset) staging) in
+      reply m c .status ≡ firstOf ((1 when not (eqb (length key) 16)) ∷ (1 when not (eqb (length staging) 480)) ∷ (19 when not (leb (h .«name_len») 64))
+      ∷ (19 when not (leb (h .«final_data_size») 480)) ∷ (19 when not (eqb (h .offset) (h .«final_data_size»))) ∷ (reply m set .status when true) ∷ [])
   pub infos : (m : Model) (key name r : List ℕ) → let c = getInfoCall key name in
       reply m c .status ≡ 0 → modelBinding m name .stored ≡ some r
       → modelStep m c ≡ record { answer = record { status = 0; numbers = dataSizeOf r ∷ flagsOf r ∷ []; output = [] }; after = m }
 
 -- ---- the premises can be met: two blank slots of each kind, two clients, one of whose sets asks for replay protection
 
--- "a" is set and read; "b" is set with integrity and replay protection, and "c" is not there
+-- a handle of "a", of whose two bytes n are held
+abbrev pub twoBytes : ℕ → IncSetHandle
+twoBytes n = record { name = 0x61 ∷ replicate 63 0; «name_len» = 1; flags = 0; iv = replicate 8 0; «final_data_size» = 2; offset = n }
+
+-- "a" is set, set again in chunks, of which one is missing at first, and read; "b" is set with integrity and replay protection, and "c" is not there
 abbrev pub calls : List (Tagged Call)
 calls =
     by right (setCall (replicate 16 0) (0x62 ∷ []) 12 (replicate 8 0) (7 ∷ []))
-    ∷ by left (setCall (replicate 16 0) (0x61 ∷ []) 0 (replicate 8 0) (5 ∷ 6 ∷ []))
+    ∷ by left (setCall (replicate 16 0) (0x61 ∷ []) 0 (replicate 8 0) (4 ∷ 5 ∷ []))
+    ∷ by left (finalizeCall (replicate 16 0) (twoBytes 1) (replicate 480 6))
     ∷ by right (removeCall (0x63 ∷ []))
+    ∷ by left (finalizeCall (replicate 16 0) (twoBytes 2) (replicate 480 6))
     ∷ by left (getCall (replicate 16 0) (0x61 ∷ []) 1 (9 ∷ 9 ∷ 9 ∷ []))
     ∷ []
 
@@ -140,5 +164,5 @@ status n = record { status = n; numbers = []; output = [] }
 pub record Instance : Type 0 where
   pub premise : IsolationPremise (replicate 1168 0) (replicate 164 0) (lefts calls) (rights calls)
   pub left-replies : lefts (answers (sharedStep storeStep) (areas (replicate 1168 0) (replicate 164 0)) calls)
-      ≡ status 0 ∷ record { status = 0; numbers = 1 ∷ []; output = 6 ∷ 9 ∷ 9 ∷ [] } ∷ []
+      ≡ status 0 ∷ status 19 ∷ status 0 ∷ record { status = 0; numbers = 1 ∷ []; output = 6 ∷ 9 ∷ 9 ∷ [] } ∷ []
   pub right-replies : rights (answers (sharedStep storeStep) (areas (replicate 1168 0) (replicate 164 0)) calls) ≡ status 0 ∷ status 6 ∷ []

@@ -8,9 +8,11 @@ pub mod Interleaving
 pub mod Request
 pub mod Decisions
 pub mod Calls
+pub mod Incremental
 pub mod Model
 pub mod Demand1
 pub mod Demand2
+pub mod IncrementalExact
 pub mod Demand3
 pub mod Shapes
 pub mod Edges

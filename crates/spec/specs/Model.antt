@@ -17,6 +17,8 @@ use Rattle.spec.specs.Interleaving.{Outcome}
 use Rattle.spec.specs.Request.{Binding, Effect, Request, World, run}
 use Rattle.spec.specs.Decisions.{setRequest, getRequest, getInfoRequest, removeRequest}
 use Rattle.spec.specs.Calls.{Areas, storeWorld}
+use Rattle.spec.specs.Incremental.{finalizeRequest}
+use Rattle.spec.specs.declared.incremental.IncSetHandle.{IncSetHandle}
 
 -- A call on a name, "each call's arguments except card and chip".
 pub data Call : Type 0 where
@@ -28,12 +30,15 @@ pub data Call : Type 0 where
   getInfoCall : List ℕ → Name → Call
   -- name
   removeCall : Name → Call
+  -- device key, handle, staging buffer: "the book sees its running state and holding buffer too"
+  finalizeCall : List ℕ → IncSetHandle → List ℕ → Call
 
 abbrev pub requestOf : Call → Request
 requestOf (setCall key name flags iv value) = setRequest requireReplayProtection key name flags iv value
 requestOf (getCall key name offset output) = getRequest requireReplayProtection key name offset output
 requestOf (getInfoCall key name) = getInfoRequest requireReplayProtection key name
 requestOf (removeCall name) = removeRequest requireReplayProtection name
+requestOf (finalizeCall key h staging) = finalizeRequest requireReplayProtection key h staging
 
 abbrev pub callName : Call → Name
 callName c = requestOf c .name

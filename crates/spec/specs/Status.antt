@@ -14,9 +14,9 @@ ok = 0
 
 -- 0 done; 1 length wrong; 2 card or chip damaged; 3 bad name, prefix or key identifier; 4 bad flags; 5 data over 480 bytes; 6 not found; 7 already
 -- exists; 8 record not well formed; 9 flags differ from the stored ones; 10 no room; 11 CMAC wrong; 12 rollback; 13 not a key file; 14 offset beyond
--- the data
+-- the data; 02 adds, each with its request: 19 a chunk, a finalize or a handle of an incremental set that does not fit
 abbrev pub statusTable : List ℕ
-statusTable = 0 ∷ 1 ∷ 2 ∷ 3 ∷ 4 ∷ 5 ∷ 6 ∷ 7 ∷ 8 ∷ 9 ∷ 10 ∷ 11 ∷ 12 ∷ 13 ∷ 14 ∷ []
+statusTable = 0 ∷ 1 ∷ 2 ∷ 3 ∷ 4 ∷ 5 ∷ 6 ∷ 7 ∷ 8 ∷ 9 ∷ 10 ∷ 11 ∷ 12 ∷ 13 ∷ 14 ∷ 19 ∷ []
 
 unfoldable pub isListed : ℕ → Bool
 isListed s = any (eqb s) statusTable

@@ -1,24 +1,26 @@
 -- The words in which the statements are put, each pinned by a law in the library's own words: a word given another meaning breaks its law here, even
 -- where every statement that uses it would still hold. Notion by notion:
 --   statuses: `isListed`, `firstOf` (those of bytes and numbers have theirs in crate `buffers`);
---   names: `dedup`; areas: `areas`, `bindingOf`, `slotSize`, `slotCount`, `slots`, `names`;
+--   names: `dedup`; areas: `areas`, `bindingOf`, `slotSize`, `slotCount`, `slots`, `names`; sets in chunks: `staged`, `zeroHandle`;
 --   runs: `answers`, `final`, `sharedStep`; merges: `lefts`, `rights`, `Interleaving`.
 use mathlib.Core.Path.{_≡_}
-use mathlib.Core.Logic.{_↔_}
+use mathlib.Core.Logic.{_⊎_, _↔_}
 use mathlib.Core.Bool.{true, false}
 use mathlib.Core.List.{List, [], _∷_, flatten, List·Memᴰ}
 use mathlib.Core.Option.{some}
 use Prim.Native.Nat.{ℕ, _*_, _/_, _≤_, _<_}
-use lib.ListN.{length, getD, take, drop}
+use lib.ListN.{length, getD, take, drop, replicate}
 use Rattle.spec.specs.Status.{isListed, Test, _when_, firstOf}
 use Rattle.spec.specs.Name.{Name}
 use Rattle.spec.specs.Slots.{dedup}
 use Rattle.spec.specs.Area.{Format, kvFormat, rbpFormat, slotHolder, slotCount, slots, names, lookup}
 use Rattle.spec.specs.Calls.{areas, bindingOf}
+use Rattle.spec.specs.Incremental.{zeroHandle, staged}
+use Rattle.spec.specs.declared.incremental.IncSetHandle.{IncSetHandle}
 use Rattle.spec.specs.Interleaving.{Side, left, right, Tagged, by, lefts, rights, Interleaving, Outcome, answers, final, sharedStep}
 
 pub record TestLaws : Type 0 where
-  pub listed : (s : ℕ) → (isListed s ≡ true) ↔ (s ≤ 14)
+  pub listed : (s : ℕ) → (isListed s ≡ true) ↔ ((s ≤ 14) ⊎ (s ≡ 19))
   -- of tests in order, the first that says so decides
   pub none-says : firstOf [] ≡ 0
   pub says : (n : ℕ) (rest : List Test) → firstOf ((n when true) ∷ rest) ≡ n
@@ -72,6 +74,10 @@ pub record Vocabulary : Type 1 where
   -- card and chip, and what a name has there
   pub both : (kv rbp : List ℕ) → areas kv rbp ≡ record { kv = kv; rbp = rbp }
   pub contents : (kv rbp : List ℕ) (name : Name) → bindingOf kv rbp name ≡ record { stored = lookup kvFormat kv name; tag = lookup rbpFormat rbp name }
+  -- handle and staging buffer; 02, No. 2: "an all-zero state"
+  pub chunked : (h : IncSetHandle) (staging : List ℕ) → staged h staging ≡ record { handle = h; staging = staging }
+  pub all-zero : zeroHandle
+      ≡ record { name = replicate 64 0; «name_len» = 0; flags = 0; iv = replicate 8 0; «final_data_size» = 0; offset = 0 }
   pub kv-slots : SlotLaws kvFormat 584
   pub rbp-slots : SlotLaws rbpFormat 82
   pub runs : {State Call Answer : Type 0} (step : State → Call → Outcome State Answer) → RunLaws step

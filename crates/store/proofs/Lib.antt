@@ -6,3 +6,5 @@ pub mod SetCall
 pub mod GetCall
 pub mod RemoveCall
 pub mod IteratorCall
+pub mod IncrementalCall
+pub mod HandleBytes

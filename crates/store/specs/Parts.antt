@@ -1,6 +1,7 @@
 -- What the functions of the code give, put in the definitions of `spec`: the tests of a call in the groups that a function makes, and what is written.
 --   areaTests                        the tests of card and chip, and of the lengths that a call has besides
 --   early, setEarly .. iteratorEarly the tests that a call makes before it looks the name up; a set's own arguments (setArguments)
+--   finalizeEarly                    those of a finalize
 --   given, bindingGiven              what a name has, as the code hands it on: held or not, and the bytes
 --   authentic, fresh                 the tests for 11 and for 12 pass
 --   judged                           a call's status, and the slots that the name has, once the tests before them have passed
@@ -18,6 +19,8 @@ use Rattle.spec.specs.Area.{kvFormat, rbpFormat}
 use Rattle.spec.specs.Request.{Binding}
 use Rattle.spec.specs.Decisions.{keySized, ivSized, tagMatches}
 use Rattle.spec.specs.Calls.{Areas, areas, areaLengths, areaDamage}
+use Rattle.spec.specs.Incremental.{finalizeTests}
+use Rattle.spec.specs.declared.incremental.IncSetHandle.{IncSetHandle}
 use Rattle.slots.specs.declared.areas.Found.{Found}
 use Rattle.slots.specs.Found.{foundIn, insertAt, eraseAt}
 use Rattle.store.specs.declared.judge.Judged.{Judged}
@@ -45,6 +48,10 @@ removeEarly kv rbp name = early kv rbp [] ((3 when not (validName name)) ∷ [])
 
 abbrev pub iteratorEarly : List ℕ → List ℕ → List ℕ → List ℕ → List Test
 iteratorEarly kv rbp prefix nameBuf = early kv rbp ((1 when not (leb 64 (length nameBuf))) ∷ []) ((3 when not (validPrefix prefix)) ∷ [])
+
+-- a finalize's tests of lengths and of its handle, which come before damage; a handle's IV has no other length than 8
+abbrev pub finalizeEarly : List ℕ → List ℕ → List ℕ → IncSetHandle → List ℕ → List Test
+finalizeEarly kv rbp key h staging = areaLengths (areas kv rbp) ++ ((1 when not (keySized key)) ∷ finalizeTests h staging)
 
 -- ---- what the name has
 

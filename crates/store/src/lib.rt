@@ -2,6 +2,8 @@
 pub mod answers;
 pub mod get;
 pub mod guard;
+pub mod handle;
+pub mod incremental;
 pub mod iterate;
 pub mod judge;
 pub mod remove;

@@ -33,6 +33,8 @@ pub const ERR_INVALID_KEY_FILE: u32 = 13;
 
 pub const ERR_OFFSET: u32 = 14;
 
+pub const ERR_TRANSFER_SIZE: u32 = 19;
+
 // The first of two numbers that is not 0, as 01 orders tests.
 pub fn first(a: u32, b: u32) -> u32
     ensures { λ r. ⌜ r ≡ cond (eqb a 0) b a ⌝ }

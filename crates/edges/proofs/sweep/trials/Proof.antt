@@ -7,10 +7,10 @@ use Rattle.edges.proofs.sweep.trials.Statement.{statement}
 use Rattle.edges.proofs.sweep.trials.Tie as tie
 
 abbrev Inv-loop : tie.InvT-loop
-Inv-loop sweep n base index args env mem₀ common₀ i₀ mem common i = (i ≤ n) × (length mem ≡ length mem₀)
+Inv-loop sweep n base word args env mem₀ common₀ i₀ mem common i = (i ≤ n) × (length mem ≡ length mem₀)
 
 abbrev μ-loop : tie.MeasureT-loop
-μ-loop sweep n base index args env mem₀ common₀ i₀ mem common i = n - i
+μ-loop sweep n base word args env mem₀ common₀ i₀ mem common i = n - i
 
 trial-requires : tie.Need-trial-requires Inv-loop μ-loop
 trial-requires c κs = search needs
