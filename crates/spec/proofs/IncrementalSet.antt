@@ -1,36 +1,36 @@
 -- A set that arrives in chunks: when each of its calls is done, what a finalize is, and that it makes no difference how the data were divided.
 use mathlib.Core.Path.{_≡_, refl, sym, ap, _∙_}
-use mathlib.Core.Logic.{_≢_, _↔_}
-use mathlib.Core.Bool.{Bool, true, false, cond, not}
+use mathlib.Core.Logic.{_≢_}
+use mathlib.Core.Bool.{Bool, true, false, not}
 use mathlib.Core.List.{List, [], _∷_, _++_, append-assoc, append-nil, flatten}
 use Prim.Native.Nat.{ℕ, _+_, _-_, _^_, _≤_, _<_, zero-le}
 use native.Mathlib.Omega.{arith}
-use borrow.Author.Tests.{eqb-true, eqb-false, eq-eqb, ne-eqb, leb-true, le-leb}
+use borrow.Author.Tests.{eqb-true, eq-eqb, ne-eqb, leb-true, le-leb}
 use lib.Dec.{eqb, leb}
 use lib.ListN.{length, take, drop, length-append, length-drop, take-append-drop, drop-of-length-le}
 use lib.Seq.{take-at, drop-at, drop-drop}
 use Rattle.buffers.specs.Bytes.{zeros, leBytes, leValue, u32At}
-use Rattle.spec.specs.Status.{ok, isOk, Test, _when_, refuseIf, firstOf, onOk, answerOf, Answer}
+use Rattle.spec.specs.Status.{ok, Test, _when_, refuseIf, firstOf, onOk, answerOf}
 use Rattle.spec.specs.Name.{Name}
 use Rattle.spec.specs.Record.{requireReplayProtection}
 use Rattle.spec.specs.Area.{kvFormat, rbpFormat, sized}
-use Rattle.spec.specs.Interleaving.{Outcome, final}
+use Rattle.spec.specs.Interleaving.{final}
 use Rattle.spec.specs.Request.{Request, World, found, statusOf, run}
 use Rattle.spec.specs.Decisions.{keySized, ivSized, setHeld, setTests, setRequest}
 use Rattle.spec.specs.Calls.{areas, areaLengths, areaDamage, bindingOf, roomOf, storeWorld, storeSet}
 use Rattle.spec.specs.Incremental.{handleName, stagedData, stagingSized, nameFits, zeroHandle, newHandle, startTests, setStart, staged, Staged}
-use Rattle.spec.specs.Incremental.{advanced, addTests, setAddData, finalizeTests, finalizeRequest, storeSetFinalize, handleBytes, handleOf}
-use Rattle.spec.specs.Demand2.{Exact, done, Settable}
+use Rattle.spec.specs.Incremental.{addTests, setAddData, finalizeTests, finalizeRequest, storeSetFinalize, handleBytes, handleOf}
+use Rattle.spec.specs.Demand2.{done}
 use Rattle.spec.specs.Shapes.{AreBytes}
 use Rattle.spec.specs.IncrementalExact.{Startable, handle, StartExact, Addable, extended, AddExact, Complete, Finalizable, FinalizeExact, oneSet}
 use Rattle.spec.specs.IncrementalExact.{addStep, taken, begun, fed, value, Divided, HoweverDivided, HandleFits, HandleNumerals, Incremental}
 use Rattle.spec.specs.declared.incremental.IncSetHandle.{IncSetHandle}
-use Rattle.buffers.proofs.Split.{split, clash, not-false-is}
+use Rattle.buffers.proofs.Split.{clash, not-false-is}
 use Rattle.buffers.proofs.Bytes.{le-value}
 use Rattle.buffers.proofs.Lists.{put-next}
 use Rattle.buffers.proofs.LittleEndian.{number-part}
-use Rattle.spec.proofs.Status.{Passed, all-passed, passed-all, past, stops, under, passed-split, on-ok, on-refused, by-status, refuse-either}
-use Rattle.spec.proofs.World.{run-refused, order, accepted}
+use Rattle.spec.proofs.Status.{Passed, all-passed, passed-all, past, stops, under, on-refused, by-status}
+use Rattle.spec.proofs.World.{run-refused, accepted}
 use Rattle.spec.proofs.Set.{set-exact}
 
 -- a call that gives nothing but its status, and leaves the one or the other

@@ -21,7 +21,6 @@ use Rattle.spec.proofs.Slots.{find-in}
 use Rattle.spec.proofs.Slot.{kv-laws, rbp-laws}
 use Rattle.spec.proofs.Area.{Sound, GoodEdit, WhenWritten, when-map, HasRoom, Roomy, roomy-space}
 use Rattle.spec.proofs.Area.{edit-sound, edit-length, edit-roomy, lookup-edit, lookup-edit-other}
-use Rattle.spec.proofs.Status.{under}
 use Rattle.spec.proofs.World.{kv-sound-of, rbp-sound-of, both-sound, Sane, accepted, own-tests}
 use Rattle.spec.proofs.Interleaving.{each-in, part-in, part-none, side-other, alone}
 use Rattle.spec.proofs.Model.{table-same, table-other, model-start}

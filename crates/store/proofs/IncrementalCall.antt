@@ -14,13 +14,13 @@ use Rattle.spec.specs.Status.{ok, Test, _when_, refuseIf, firstOf, onOk, answer
 use Rattle.spec.specs.Name.{Name}
 use Rattle.spec.specs.Area.{kvFormat, rbpFormat, sized}
 use Rattle.spec.specs.Interleaving.{Outcome}
-use Rattle.spec.specs.Decisions.{keySized, ivSized}
-use Rattle.spec.specs.Calls.{Areas, areas, areaLengths, storeSet}
-use Rattle.spec.specs.Incremental.{handleName, stagedData, stagingSized, handleTests, zeroHandle, startTests, newHandle, setStart}
-use Rattle.spec.specs.Incremental.{Staged, staged, addTests, advanced, setAddData, finalizeTests, storeSetFinalize}
+use Rattle.spec.specs.Decisions.{keySized}
+use Rattle.spec.specs.Calls.{Areas, areas, storeSet}
+use Rattle.spec.specs.Incremental.{stagingSized, handleTests, zeroHandle, startTests, newHandle, setStart}
+use Rattle.spec.specs.Incremental.{staged, addTests, advanced, setAddData, storeSetFinalize}
 use Rattle.spec.specs.IncrementalExact.{Startable, Addable, Complete}
 use Rattle.spec.specs.declared.incremental.IncSetHandle.{IncSetHandle}
-use Rattle.spec.proofs.Status.{Passed, all-passed, passes, past, passed-split, stops, on-ok, on-refused}
+use Rattle.spec.proofs.Status.{Passed, all-passed, past, stops}
 use Rattle.spec.proofs.IncrementalSet.{startable, addable, complete-of, as-set, finalize-refused}
 use Rattle.store.specs.Parts.{finalizeEarly}
 
@@ -64,9 +64,6 @@ module _ (h : IncSetHandle) (n : ℕ) (e : n ≡ firstOf (handleTests h)) where
 
   pub count-in : n ≡ ok → h .offset ≤ h .«final_data_size»
   count-in z = leb-true (h .offset) (h .«final_data_size») (not-false-is _ (handle-passed z .1 .1 .0))
-
-  pub size-in : n ≡ ok → h .«final_data_size» ≤ 480
-  size-in z = leb-true (h .«final_data_size») 480 (not-false-is _ (handle-passed z .1 .0))
 
   module _ (staging chunk : List ℕ) (s : length staging ≡ 480) where
     abbrev last : List Test

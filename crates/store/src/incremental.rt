@@ -9,7 +9,6 @@ use spec::incremental::IncSetHandle;
 ghost use mathlib.Core.Path.{_≡_};
 ghost use mathlib.Core.List.{[]};
 ghost use Prim.Native.Nat.{_+_, _≤_};
-ghost use lib.ListN.{length};
 ghost use Rattle.spec.specs.Status.{firstOf};
 ghost use Rattle.spec.specs.Incremental.{handleTests, zeroHandle, startTests, newHandle, setStart, addTests, advanced, setAddData, storeSetFinalize};
 ghost use Rattle.spec.specs.IncrementalExact.{Startable};

@@ -1,5 +1,4 @@
 -- `store::incremental::finalize_status`: 1 for each length, then 19.
-use mathlib.Core.Path.{sym, _∙_}
 use borrow.Author.Needs.{needs}
 use Rattle.store.proofs.Tests.{is-false, is-true}
 use Rattle.store.proofs.IncrementalCall.{no-card, no-chip, no-length, finalize-broken, finalize-short, finalize-passes}

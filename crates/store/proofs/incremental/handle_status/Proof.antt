@@ -1,5 +1,4 @@
 -- `store::incremental::handle_status`: 19 for each field that is past its bound.
-use borrow.Author.Needs.{needs}
 use borrow.Author.Tests.{lt-leb, le-leb}
 use Rattle.spec.specs.Status.{refuseIf}
 use Rattle.store.proofs.incremental.handle_status.Statement.{statement}

@@ -1,5 +1,4 @@
 -- `store::incremental::set_add_data`: what the tests say, then the chunk behind what is held.
-use mathlib.Core.Path.{sym, _∙_}
 use native.Mathlib.Omega.{arith}
 use borrow.Author.Needs.{needs}
 use Rattle.store.proofs.IncrementalCall.{add-ready, add-refused, add-done}

@@ -1,5 +1,5 @@
 -- `store::incremental::set_finalize`: what the tests say, then a set of what is held.
-use mathlib.Core.Path.{_≡_, sym, _∙_}
+use mathlib.Core.Path.{_≡_}
 use native.Mathlib.Omega.{arith}
 use lib.ListN.{length}
 use borrow.Author.Needs.{needs}

@@ -1,6 +1,5 @@
 -- `store::incremental::start_status`: 1, 3, 5.
 use lib.ListN.{length}
-use borrow.Author.Needs.{needs}
 use borrow.Author.Tests.{eq-eqb, ne-eqb, lt-leb, le-leb}
 use Rattle.spec.specs.Status.{refuseIf}
 use Rattle.store.proofs.incremental.start_status.Statement.{statement}
