@@ -63,7 +63,9 @@
  * Erased flash. Empty is all zero. A card or chip of 0xff, or with one slot of 0xff, is damaged: every call on it but reset answers 2. Make new media
  * all zero first, by a reset; for a new card beside a chip in use, whose contents a reset would clear, make the card's buffer alone all zero.
  *
- * Time. Tags are compared in full, but AES works by table look-ups: its time may depend on key and data where the machine has a data cache. */
+ * Time. CMACs are compared in all sixteen bytes, and nothing is decided before the last (securestore_tag_difference): on x86-64 a refusal was counted to
+ * cost the same number of instructions wherever they differ. But AES works by table look-ups: its time may depend on key and data where the machine has a
+ * data cache. */
 #ifndef SECURESTORE_H
 #define SECURESTORE_H
 
@@ -72,9 +74,9 @@
 
 /* Version of header and library. */
 #define SECURESTORE_VERSION_MAJOR 0
-#define SECURESTORE_VERSION_MINOR 3
+#define SECURESTORE_VERSION_MINOR 4
 #define SECURESTORE_VERSION_PATCH 0
-#define SECURESTORE_VERSION_STRING "0.3.0"
+#define SECURESTORE_VERSION_STRING "0.4.0"
 
 /* What the store's calls return: one of these numbers. */
 typedef uint32_t securestore_status;
@@ -255,7 +257,11 @@ securestore_status securestore_load_key(const uint8_t *kv, size_t kv_len, const 
 securestore_status securestore_parse_key_file(const uint8_t *file, size_t file_len, uint32_t *lifetime, uint32_t *key_type, uint32_t *usage, uint32_t *alg,
                                               uint32_t *enrollment_alg, uint32_t *material_len);
 
-/* The ciphers below have no refusal. */
+/* What is below has no refusal. */
+
+/* The bits in which two CMACs differ, in any of their sixteen bytes: the or of the sixteen exclusive ors, a number of 0 to 255, which is 0 just where the
+ * CMACs are equal. Each comparison of a CMAC in the calls above is this one, and here for an auditor to call. The two may overlap. */
+uint32_t securestore_tag_difference(const uint8_t a[16], const uint8_t b[16]);
 
 /* AES-128 (FIPS 197): encrypts the block in place. */
 void securestore_aes128_encrypt(const uint8_t key[16], uint8_t block[16]);

@@ -73,7 +73,7 @@ static void test_version(void)
     char text[64];
     sprintf(text, "%d.%d.%d", SECURESTORE_VERSION_MAJOR, SECURESTORE_VERSION_MINOR, SECURESTORE_VERSION_PATCH);
     expect(strcmp(text, SECURESTORE_VERSION_STRING) == 0, "version: string and numbers agree");
-    expect(strcmp(SECURESTORE_VERSION_STRING, "0.3.0") == 0, "version: 0.3.0");
+    expect(strcmp(SECURESTORE_VERSION_STRING, "0.4.0") == 0, "version: 0.4.0");
 }
 
 static void test_aes(void)
@@ -99,6 +99,41 @@ static void test_cmac(void)
     expect(memcmp(tag, empty, 16) == 0, "cmac: SP 800-38B, example 1");
     securestore_cmac(KEY, message, 16, tag);
     expect(memcmp(tag, whole, 16) == 0, "cmac: SP 800-38B, example 2");
+}
+
+/* One bit, anywhere and either way round; then random pairs, each bit of the number looked for by itself. */
+static void test_tag_difference(void)
+{
+    uint8_t a[16], b[16];
+    uint32_t state = 1, got;
+    unsigned i, bit, pair, some, wrong = 0;
+    memcpy(a, KEY, 16);
+    memcpy(b, KEY, 16);
+    expect(securestore_tag_difference(a, b) == 0 && securestore_tag_difference(a, a) == 0, "tag_difference: equal");
+    for (i = 0; i < 16; i++) {
+        for (bit = 0; bit < 8; bit++) {
+            b[i] ^= (uint8_t)(1u << bit);
+            wrong += securestore_tag_difference(a, b) != 1u << bit || securestore_tag_difference(b, a) != 1u << bit;
+            b[i] = a[i];
+        }
+    }
+    expect(wrong == 0, "tag_difference: one bit");
+    for (wrong = 0, pair = 0; pair < 100000; pair++) {
+        for (i = 0; i < 16; i++) {
+            state = state * 1664525u + 1013904223u;
+            a[i] = (uint8_t)(state >> 24);
+            /* few bits differ, so that the number is not always 255 */
+            b[i] = (uint8_t)(a[i] ^ ((state >> 16) & (state >> 12) & (state >> 8) & (state >> 4)));
+        }
+        got = securestore_tag_difference(a, b);
+        for (bit = 0; bit < 32; bit++) {
+            for (some = 0, i = 0; i < 16; i++) {
+                some |= (unsigned)(a[i] >> bit & 1) != (unsigned)(b[i] >> bit & 1);
+            }
+            wrong += (got >> bit & 1) != some;
+        }
+    }
+    expect(wrong == 0, "tag_difference: random pairs");
 }
 
 static void test_ctr(void)
@@ -362,6 +397,7 @@ int main(void)
     test_version();
     test_aes();
     test_cmac();
+    test_tag_difference();
     test_ctr();
     test_derive();
     test_sealed_slot();

@@ -3,4 +3,5 @@ pub mod Bytes
 pub mod Lists
 pub mod LittleEndian
 pub mod Folds
+pub mod Differences
 pub mod Theorems

@@ -1,4 +1,4 @@
--- What a comparison computes before it decides.
+-- What a comparison hands back before anything is decided: a number that has every bit in which the two differ.
 use mathlib.Core.List.{List, foldl, zipWith}
 use Prim.Native.Nat.{ℕ}
 use lib.Bits.{bitOr, bitXor}
@@ -7,6 +7,6 @@ use lib.Bits.{bitOr, bitXor}
 unfoldable pub orAll : List ℕ → ℕ
 orAll l = foldl bitOr 0 l
 
--- the exclusive ors of all pairs, joined: 0 where, and only where, no pair differs
+-- 02, No. 3: "the bitwise or of the sixteen pairs' exclusive ors", of as many pairs as there are
 unfoldable pub diffAccumulate : List ℕ → List ℕ → ℕ
 diffAccumulate a b = orAll (zipWith bitXor a b)

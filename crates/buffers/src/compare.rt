@@ -1,4 +1,4 @@
-// Tests that look at every byte and decide at the end.
+// Comparisons that look at every byte, and decide at the end or leave it to the caller.
 ghost use mathlib.Core.Path.{_≡_};
 ghost use lib.ListN.{length};
 ghost use Rattle.buffers.specs.Bytes.{allZero, bytesEq};
@@ -18,7 +18,7 @@ pub fn all_zero(s: &[u8]) -> bool
 }
 
 // The bits in which two byte strings of one length differ, at any place.
-pub fn diff_accumulate(a: &[u8], b: &[u8]) -> u8
+fn diff_accumulate(a: &[u8], b: &[u8]) -> u8
     requires { ⌜ length (now a) ≡ length (now b) ⌝ }
     ensures { λ r. ⌜ r ≡ diffAccumulate (now (a .entry)) (now (b .entry)) ⌝ }
 {
@@ -31,6 +31,7 @@ pub fn diff_accumulate(a: &[u8], b: &[u8]) -> u8
     diff
 }
 
+// Names, prefixes and marks; a CMAC is compared by `tag_difference`.
 pub fn bytes_equal(a: &[u8], b: &[u8]) -> bool
     ensures { λ r. ⌜ r ≡ bytesEq (now (a .entry)) (now (b .entry)) ⌝ }
 {
@@ -40,10 +41,15 @@ pub fn bytes_equal(a: &[u8], b: &[u8]) -> bool
     diff_accumulate(a, b) == 0
 }
 
-// Whether two CMACs are equal in all sixteen bytes: the time says nothing of the bytes.
-pub fn tags_equal_ct(a: &[u8], b: &[u8]) -> bool
-    requires { ⌜ (length (now a) ≡ 16) × (length (now b) ≡ 16) ⌝ }
-    ensures { λ r. ⌜ r ≡ bytesEq (now (a .entry)) (now (b .entry)) ⌝ }
+// 02, No. 3: the bits in which two CMACs differ, at any of the sixteen places. Every comparison of a CMAC is this one, and its yes is 0.
+pub fn tag_difference(a: [u8; 16], b: [u8; 16]) -> u8
+    ensures { λ r. ⌜ r ≡ diffAccumulate a b ⌝ }
 {
-    diff_accumulate(a, b) == 0
+    let mut bits: u8 = 0;
+    let mut k: usize = 0;
+    while k < 16 {
+        bits = bits | (a[k] ^ b[k]);
+        k += 1;
+    }
+    bits
 }

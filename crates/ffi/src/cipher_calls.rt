@@ -1,9 +1,11 @@
-// The ciphers. Keys, blocks and IVs are pointers to their fixed number of bytes.
+// The ciphers, and the comparison of CMACs. Keys, blocks and IVs are pointers to their fixed number of bytes.
+use buffers::compare;
 use cipher::aes;
 use cipher::cmac;
 use cipher::ctr;
 use cipher::kdf;
 ghost use mathlib.Core.Path.{_≡_};
+ghost use Rattle.buffers.specs.Compare.{diffAccumulate};
 ghost use Rattle.cipher.specs.Aes.{aes128};
 ghost use Rattle.cipher.specs.Cmac as Cmac;
 ghost use Rattle.cipher.specs.Ctr as Ctr;
@@ -23,6 +25,14 @@ pub extern "C" fn securestore_cmac(key: &[u8; 16], message: &[u8], tag: &mut [u8
     ensures { λ _. ⌜ now (tag .exit) ≡ Cmac.cmac (now (key .entry)) (now (message .entry)) ⌝ }
 {
     *tag = cmac::cmac_tag(*key, message);
+}
+
+// The comparison of CMACs that the store's calls use, for an auditor to call: the bits in which some pair of the sixteen differs.
+#[no_mangle]
+pub extern "C" fn securestore_tag_difference(a: &[u8; 16], b: &[u8; 16]) -> u32
+    ensures { λ r. ⌜ r ≡ diffAccumulate (now (a .entry)) (now (b .entry)) ⌝ }
+{
+    compare::tag_difference(*a, *b) as u32
 }
 
 // Counter mode from count 0, in place.

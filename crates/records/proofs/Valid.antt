@@ -6,7 +6,6 @@ use Prim.Native.Nat.{ℕ, _+_, _-_, _<_}
 use native.Mathlib.Omega.{arith}
 use lib.ListN.{length, take}
 use lib.Seq.{take-add}
-use Rattle.cipher.proofs.Theorems.{lengths}
 use Rattle.spec.specs.Record.{metadataOf, storedDataOf, wellFormed, recordCmac}
 use Rattle.buffers.proofs.Split.{split}
 use Rattle.spec.proofs.Record.{ValidRecord, valid-record}
@@ -18,10 +17,6 @@ valid-halves r = simp and-assoc
 
 pub short-invalid : (r : List ℕ) → length r < 36 → wellFormed r ≡ false
 short-invalid r h = split (wellFormed r) (λ e. let v = valid-record r e in absurd (omega arith)) (λ e. e)
-
-pub cmac-over-length : (key name covered : List ℕ) → length (cmacOver key name covered) ≡ 16
-unfolding cmacOver
-cmac-over-length key name covered = lengths .of-tag _ _
 
 -- metadata and stored data stand side by side
 pub covered-cmac : (key name r : List ℕ) → ValidRecord r

@@ -3,6 +3,7 @@
 use crate::flags;
 use buffers::compare;
 use buffers::numbers;
+use buffers::parts;
 ghost use mathlib.Core.Path.{_≡_};
 ghost use mathlib.Core.Bool.{true, _||_};
 ghost use lib.ListN.{length};
@@ -69,10 +70,10 @@ pub fn record_data_size(r: &[u8]) -> u32
 }
 
 // The CMAC as stored.
-pub(crate) fn record_tag<'a>(r: &'a [u8]) -> &'a [u8]
+pub(crate) fn record_tag(r: &[u8]) -> [u8; 16]
     requires { ⌜ wellFormed (now r) ≡ true ⌝ }
-    ensures { λ t. ⌜ now t ≡ tagOf (now (r .entry)) ⌝ }
+    ensures { λ t. ⌜ t ≡ tagOf (now (r .entry)) ⌝ }
 {
     let at = r.len() - 16;
-    &r[at..]
+    parts::array16(&r[at..])
 }

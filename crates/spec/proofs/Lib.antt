@@ -25,6 +25,7 @@ pub mod Isolation
 pub mod ModelExact
 pub mod Intact
 pub mod Shapes
+pub mod TagComparison
 pub mod Edges
 pub mod Vocabulary
 pub mod Instance

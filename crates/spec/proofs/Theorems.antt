@@ -7,6 +7,7 @@ use Rattle.spec.specs.IncrementalExact.{Incremental}
 use Rattle.spec.specs.declared.incremental.IncSetHandle.{IncSetHandle}
 use Rattle.spec.specs.Demand3.{ClientIsolation, StepIsCall, ModelExact, Instance}
 use Rattle.spec.specs.Shapes.{Shapes}
+use Rattle.spec.specs.TagComparison.{TagComparison}
 use Rattle.spec.specs.Edges.{Edges, Numerals}
 use Rattle.spec.specs.Vocabulary.{Vocabulary}
 use Rattle.spec.proofs.Demand1.{demand1-holds}
@@ -21,6 +22,7 @@ use Rattle.spec.proofs.Isolation.{client-isolation}
 use Rattle.spec.proofs.ModelExact.{step-is-call, model-exact}
 use Rattle.spec.proofs.Instance.{instance}
 use Rattle.spec.proofs.Shapes.{shapes-hold}
+use Rattle.spec.proofs.TagComparison.{tag-comparison}
 use Rattle.spec.proofs.Edges.{edges-hold, numerals-hold}
 use Rattle.spec.proofs.Vocabulary.{vocabulary-holds}
 
@@ -57,6 +59,9 @@ premises-met = instance
 
 pub shapes : Shapes
 shapes = shapes-hold
+
+pub every-byte-compared : (key name r copy : List ℕ) → TagComparison key name r copy
+every-byte-compared = tag-comparison
 
 pub edges : Edges
 edges = edges-hold

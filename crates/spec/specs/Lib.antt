@@ -15,5 +15,6 @@ pub mod Demand2
 pub mod IncrementalExact
 pub mod Demand3
 pub mod Shapes
+pub mod TagComparison
 pub mod Edges
 pub mod Vocabulary

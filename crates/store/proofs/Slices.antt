@@ -1,29 +1,23 @@
 -- Lengths of what the areas hold, and parts of arrays that end in zeros. Assumes nothing.
-use mathlib.Core.Path.{_≡_, refl, ap, _∙_}
+use mathlib.Core.Path.{_≡_, ap, _∙_}
 use mathlib.Core.Bool.{true}
-use mathlib.Core.List.{List, [], _++_}
+use mathlib.Core.List.{List, _++_}
 use Prim.Native.Nat.{ℕ, _-_, _≤_}
 use native.Mathlib.Omega.{arith}
-use lib.Seq.{take-at, drop-append-le, length-take-le}
-use lib.ListN.{length, getD, take, drop, length-drop}
+use lib.Seq.{take-at, drop-append-le}
+use lib.ListN.{length, take, drop, length-drop}
 use Rattle.buffers.specs.Bytes.{isSome}
-use Rattle.spec.specs.Slots.{firstIndex}
 use Rattle.spec.specs.Decisions.{recordOf}
-use Rattle.spec.specs.Area.{rbpFormat, slots, sized, lookup, holds}
-use Rattle.slots.proofs.AreaLaws.{slot-length}
-use Rattle.slots.proofs.Lookup.{lookup-here}
-use Rattle.slots.proofs.Edits.{known-in}
+use Rattle.spec.specs.Area.{rbpFormat, lookup}
+use Rattle.buffers.proofs.Split.{splitO, clash}
+use Rattle.spec.proofs.TagComparison.{kept-length}
 
 -- an entry of the chip has sixteen bytes
-pub tag-sized : (rbp name t : List ℕ) → sized rbpFormat rbp ≡ true → isSome (lookup rbpFormat rbp name) ≡ true
-    → t ≡ recordOf (lookup rbpFormat rbp name) → length t ≡ 16
-tag-sized rbp name t s h e =
-    let i = firstIndex (holds rbpFormat name) (slots rbpFormat rbp) in
-    let slot = getD (slots rbpFormat rbp) i [] in
-    let there = known-in rbpFormat rbp name h in
-    let wide : length slot ≡ 82 = slot-length rbpFormat rbp s i there in
-    let payload : t ≡ take 16 (drop 66 slot) = e ∙ ap recordOf (lookup-here rbpFormat rbp name i refl there) in
-    rw payload (length-take-le 16 (drop 66 slot) (omega (arith, length-drop 66 slot)))
+pub tag-sized : (rbp name t : List ℕ) → isSome (lookup rbpFormat rbp name) ≡ true → t ≡ recordOf (lookup rbpFormat rbp name) → length t ≡ 16
+tag-sized rbp name t h e =
+    splitO (lookup rbpFormat rbp name)
+    (λ z. clash (isSome (lookup rbpFormat rbp name)) h (ap isSome z))
+    (λ copy z. ap length (e ∙ ap recordOf z) ∙ kept-length name copy rbp z)
 
 -- the front of an array that holds r and then zeros, and r's last sixteen bytes in it
 pub front-part : (r z : List ℕ) (n : ℕ) → length r ≡ n → take (n - 0) (drop 0 (r ++ z)) ≡ r

@@ -46,7 +46,7 @@ fn is_authentic(device_key: [u8; 16], name: &[u8], stored: &[u8]) -> bool
     if !flag::require_integrity(record::record_flags(stored)) {
         return true;
     }
-    mac::mac_ok(device_key, name, stored)
+    mac::mac_difference(device_key, name, stored) == 0
 }
 
 // The record is the one that the chip knows, where replay protection is flagged.
@@ -60,7 +60,7 @@ fn is_fresh(tag_held: bool, tag: &[u8], stored: &[u8]) -> bool
     if !tag_held {
         return false;
     }
-    mac::tag_matches(tag, stored)
+    mac::copy_difference(tag, stored) == 0
 }
 
 // 12 where the chip has a name that the card lacks, else 6; then 8, 11, 12, 14.

@@ -82,7 +82,7 @@ held-status-requires c κs =
     let u = get-sane (args .kv .now) rbp (args .device-key .now) n (sym (early-status .ensures) ∙ if1 .left) in
     let entry = held-is rbpFormat rbp n (find2 .result) (find2 .ensures) in
     let tag = payload-is rbpFormat rbp n (find2 .result) (find2 .ensures) _ (payload-at2 .ensures) in
-    λ h. tag-sized rbp n _ (u .rbp-sized) (sym entry ∙ h) tag
+    λ h. tag-sized rbp n _ (sym entry ∙ h) tag
 
 returns-2 : tie.Need-returns-2
 unfolding getHeld
