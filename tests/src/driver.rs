@@ -9,7 +9,7 @@ use reference::library::Library;
 use reference::rng::Rng;
 use reference::stories;
 use reference::tally::Tally;
-use reference::{divisions, edges, generator, handles, lists, names, orders, parsing};
+use reference::{divisions, edges, generator, handles, lists, names, orders, parsing, tags};
 
 use crate::{long, openssl};
 
@@ -76,6 +76,9 @@ pub fn run(library: &dyn Library, options: &Options) -> Score {
         score.check(&name, checked);
     }
     for (name, checked) in handles::checks(library) {
+        score.check(&name, checked);
+    }
+    for (name, checked) in tags::checks(library, options.seed) {
         score.check(&name, checked);
     }
     match long::check() {

@@ -80,6 +80,7 @@ extern "C" {
     ) -> u32;
     fn securestore_aes128_encrypt(key: Bytes, block: BytesMut);
     fn securestore_cmac(key: Bytes, message: Bytes, message_len: usize, tag: BytesMut);
+    fn securestore_tag_difference(a: Bytes, b: Bytes) -> u32;
     fn securestore_ctr(key: Bytes, iv: Bytes, data: BytesMut, data_len: usize);
     fn securestore_derive(
         device_key: Bytes,
@@ -302,6 +303,16 @@ impl Library for Product {
         // SAFETY: key and tag have 16 bytes, and the message its length.
         unsafe { securestore_cmac(key.ptr(), message.ptr(), message.len(), tag.ptr_mut()) };
         cipher_result(&[&key, &message], &tag).map(to_block)
+    }
+
+    fn tag_difference(&self, a: &Block, b: &Block) -> Seen<u32> {
+        let (a, b) = (Lent::new("first tag", a), Lent::new("second tag", b));
+        // SAFETY: both buffers have the 16 bytes that the call asks for.
+        let number = unsafe { securestore_tag_difference(a.ptr(), b.ptr()) };
+        match a.written().or_else(|| b.written()) {
+            Some(stray) => Err(stray),
+            None => Ok(number),
+        }
     }
 
     fn ctr(&self, key: &Block, iv: &Iv, data: &[u8]) -> Seen<Vec<u8>> {

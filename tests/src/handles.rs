@@ -2,13 +2,12 @@
 //! them, each with each, compared with the reference.
 
 use crate::area::{Card, Chip, Entry, Place, ENTRY, NAME_MAX, PLACE};
-use crate::calls::{self, Call};
+use crate::calls::Call;
 use crate::ciphers::Checked;
 use crate::handle::{Handle, STAGING};
 use crate::library::Library;
 use crate::record::{Flags, Record};
-use crate::show;
-use crate::stories::difference;
+use crate::stories::compare;
 
 const KEY: [u8; 16] = *b"0123456789abcdef";
 const IV: [u8; 8] = *b"iv-iv-iv";
@@ -19,16 +18,6 @@ const DECLARED: [u32; 9] = [0, 1, 479, 480, 481, 736, 1 << 16, 1 << 31, u32::MAX
 /// The bytes of a name, all 64 of them whatever its length is.
 const FILLINGS: [[u8; NAME_MAX]; 3] = [[b'n'; NAME_MAX], [0; NAME_MAX], [0x7f; NAME_MAX]];
 const ODD_STAGINGS: [usize; 4] = [0, 479, 481, 960];
-
-/// The number that the library answers, which has to be the reference's.
-fn compare(library: &dyn Library, card: &[u8], chip: &[u8], call: &Call) -> Result<u32, String> {
-    let expected = calls::answer(card, chip, call).0;
-    let got = library.call(card, chip, call);
-    match difference(&expected, &got) {
-        Some(different) => Err(format!("{different}\n  {}", show::call(call))),
-        None => Ok(expected.number),
-    }
-}
 
 /// How often each number was answered, and that each of them was.
 #[derive(Default)]
@@ -213,6 +202,7 @@ pub fn checks(library: &dyn Library) -> Vec<(String, Checked)> {
 #[cfg(test)]
 mod tests {
     use super::*;
+    use crate::calls;
     use crate::library::{Faulty, Observed, Reference};
 
     #[test]

@@ -28,6 +28,7 @@ pub mod script;
 pub mod show;
 pub mod shrink;
 pub mod stories;
+pub mod tags;
 pub mod tally;
 pub mod tamper;
 pub mod vectors;

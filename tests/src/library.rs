@@ -20,6 +20,7 @@ pub trait Library: Sync {
     fn call(&self, card: &[u8], chip: &[u8], call: &Call) -> Observed;
     fn aes(&self, key: &Block, block: &Block) -> Seen<Block>;
     fn cmac(&self, key: &Block, message: &[u8]) -> Seen<Block>;
+    fn tag_difference(&self, a: &Block, b: &Block) -> Seen<u32>;
     fn ctr(&self, key: &Block, iv: &Iv, data: &[u8]) -> Seen<Vec<u8>>;
     fn derive(&self, key: &Block, prefix: &[u8], name: &[u8]) -> Seen<Block>;
     /// The answer's number; the attributes in the file's order, and the material's length.
@@ -43,6 +44,10 @@ impl Library for Reference {
 
     fn cmac(&self, key: &Block, message: &[u8]) -> Seen<Block> {
         Ok(crate::cmac::cmac(key, message))
+    }
+
+    fn tag_difference(&self, a: &Block, b: &Block) -> Seen<u32> {
+        Ok(crate::tags::difference(a, b))
     }
 
     fn ctr(&self, key: &Block, iv: &Iv, data: &[u8]) -> Seen<Vec<u8>> {
@@ -76,6 +81,10 @@ impl Library for Faulty {
 
     fn cmac(&self, key: &Block, message: &[u8]) -> Seen<Block> {
         Reference.cmac(key, message)
+    }
+
+    fn tag_difference(&self, a: &Block, b: &Block) -> Seen<u32> {
+        Reference.tag_difference(a, b)
     }
 
     fn ctr(&self, key: &Block, iv: &Iv, data: &[u8]) -> Seen<Vec<u8>> {

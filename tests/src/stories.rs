@@ -38,6 +38,21 @@ pub fn difference(expected: &Answer, got: &Observed) -> Option<String> {
         .or_else(|| show::first_difference("handle", &expected.handle, &answer.handle))
 }
 
+/// The number that the library answers, which has to be the reference's.
+pub fn compare(
+    library: &dyn Library,
+    card: &[u8],
+    chip: &[u8],
+    call: &Call,
+) -> Result<u32, String> {
+    let expected = calls::answer(card, chip, call).0;
+    let got = library.call(card, chip, call);
+    match difference(&expected, &got) {
+        Some(different) => Err(format!("{different}\n  {}", show::call(call))),
+        None => Ok(expected.number),
+    }
+}
+
 /// The first call of the story whose answers differ.
 pub fn check(story: &Story, library: &dyn Library, tally: &mut Tally) -> Option<Mismatch> {
     let (mut card, mut chip) = (story.card.clone(), story.chip.clone());
