@@ -17,7 +17,7 @@ pub fn all_zero(s: &[u8]) -> bool
     seen == 0
 }
 
-// The bits in which two byte strings of one length differ, at any place.
+// The bits in which two byte strings of one length differ, at any place: every pair is looked at, whatever was seen before.
 fn diff_accumulate(a: &[u8], b: &[u8]) -> u8
     requires { ⌜ length (now a) ≡ length (now b) ⌝ }
     ensures { λ r. ⌜ r ≡ diffAccumulate (now (a .entry)) (now (b .entry)) ⌝ }
@@ -45,11 +45,5 @@ pub fn bytes_equal(a: &[u8], b: &[u8]) -> bool
 pub fn tag_difference(a: [u8; 16], b: [u8; 16]) -> u8
     ensures { λ r. ⌜ r ≡ diffAccumulate a b ⌝ }
 {
-    let mut bits: u8 = 0;
-    let mut k: usize = 0;
-    while k < 16 {
-        bits = bits | (a[k] ^ b[k]);
-        k += 1;
-    }
-    bits
+    diff_accumulate(&a, &b)
 }

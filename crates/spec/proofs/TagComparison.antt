@@ -14,7 +14,7 @@ use Rattle.buffers.specs.Compare.{diffAccumulate}
 use Rattle.buffers.proofs.Folds.{diff-test}
 use Rattle.buffers.proofs.Split.{splitO, clashO}
 use Rattle.spec.specs.Record.{metadataOf, storedDataOf, tagOf, wellFormed, authKey, recordCmac, macOk}
-use Rattle.spec.specs.Area.{rbpFormat, slotCount, slotPayload, slotOf, lookup}
+use Rattle.spec.specs.Area.{rbpFormat, slotCount, slotOf, lookup}
 use Rattle.spec.specs.Decisions.{tagMatches, recordOf}
 use Rattle.spec.specs.TagComparison.{TagComparison}
 use Rattle.spec.proofs.Intact.{lookup-shape}
