@@ -73,13 +73,10 @@ array16-requires c κs =
 held-status-requires : tie.Need-held-status-requires
 held-status-requires c κs =
     let args = c .before .before .before .before .before .before .before .before .before .before .before .args in
-    let early-status = c .before .before .before .before .before .before .early-status in
-    let if1 = c .before .before .before .before .before .if1 in
     let find2 = c .before .before .before .find2 in
     let payload-at2 = c .before .payload-at2 in
     let rbp = args .rbp .now in
     let n = args .name .now in
-    let u = get-sane (args .kv .now) rbp (args .device-key .now) n (sym (early-status .ensures) ∙ if1 .left) in
     let entry = held-is rbpFormat rbp n (find2 .result) (find2 .ensures) in
     let tag = payload-is rbpFormat rbp n (find2 .result) (find2 .ensures) _ (payload-at2 .ensures) in
     λ h. tag-sized rbp n _ (sym entry ∙ h) tag
