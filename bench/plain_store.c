@@ -132,10 +132,10 @@ static uint32_t judge(const uint8_t *r, size_t len, const uint8_t *chip_tag, con
             return 11;
         }
     }
-    if ((r[8] & 8) && (chip_tag == NULL || !same_tag(chip_tag, r + len - 16))) {
-        return 12;
+    if (r[8] & 8) {
+        return chip_tag != NULL && same_tag(chip_tag, r + len - 16) ? 0 : 12;
     }
-    return 0;
+    return chip_tag == NULL ? 0 : 12;
 }
 
 static uint32_t guard(const uint8_t *kv, size_t kv_len, const uint8_t *rbp, size_t rbp_len, int lengths, const uint8_t *name, size_t name_len)
@@ -268,6 +268,9 @@ uint32_t plain_set(uint8_t *kv, size_t kv_len, uint8_t *rbp, size_t rbp_len, con
     status = set_held(kv, kv_len, at, entry < rbp_len, flags);
     if (status != 0) {
         return status;
+    }
+    if (!(flags & 8) && entry < rbp_len) {
+        return 12;
     }
     at = at < kv_len ? at : find_free(&KV, kv, kv_len);
     entry = entry < rbp_len ? entry : find_free(&RBP, rbp, rbp_len);

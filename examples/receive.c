@@ -173,7 +173,7 @@ static void wipe(void *memory, size_t len)
     }
 }
 
-/* As rollback.c says, a reader of protected data compares the flags first. */
+/* The chip holds the name, so a get hands out no other record than the one whose CMAC the chip has. */
 static void read_back(void)
 {
     char text[SECURESTORE_DATA_MAX + 1];

@@ -1,6 +1,6 @@
 /* The night of the old card: someone takes the card out, keeps a copy, and puts the copy back later.
  * Every record on the copy is authentic, and still the store refuses it, since the chip knows a newer one.
- * Then someone writes a record without protection to the card: a get accepts it, and a reader that compares the flags does not.
+ * Then someone puts records without protection on a card: the store refuses the one whose name the chip holds. The other it serves, and its flags tell.
  * The program checks every answer, and its exit status is 0 only if all are as the header says. */
 #include <stdio.h>
 #include <stdlib.h>
@@ -44,7 +44,7 @@ static securestore_status set(const char *name, const char *text)
                            (const uint8_t *)text, strlen(text));
 }
 
-/* A get alone: it checks what the stored flags ask for, and no more. */
+/* Reads a record and tells what came of it. Where the chip holds the name, OK means that the record has the CMAC of the last set. */
 static securestore_status get(const uint8_t *some_card, const char *name, char *text, size_t size)
 {
     size_t count = 1;
@@ -52,46 +52,35 @@ static securestore_status get(const uint8_t *some_card, const char *name, char *
                                                 strlen(name), 0, (uint8_t *)text, size - 1, &count);
     check(status == SECURESTORE_OK || count == 0, "a refusal gives count 0");
     text[count] = '\0';
+    if (status == SECURESTORE_OK) {
+        printf("  %s: \"%s\"\n", name, text);
+    } else {
+        printf("  %s: refused with %u, %s\n", name, (unsigned)status, securestore_status_text(status));
+    }
     return status;
 }
 
-/* What a reader of protected data does: the flags stand on the card, so it asks for them on the same buffers, and reads only if they are the ones that
- * this box sets. Returns 1 if the data are read; *status is the store's answer. */
-static int read_protected(const uint8_t *some_card, const char *name, char *text, size_t size, securestore_status *status)
+/* Whether a record is served and has the flags that this box sets. For a name that the chip may not hold: its record is judged by the flags on the card. */
+static int is_protected(const uint8_t *some_card, const char *name)
 {
     uint32_t data_size, flags;
-    text[0] = '\0';
-    *status = securestore_get_info(some_card, sizeof card, chip, sizeof chip, DEVICE_KEY, sizeof DEVICE_KEY, (const uint8_t *)name, strlen(name),
-                                   &data_size, &flags);
-    if (*status == SECURESTORE_OK && flags != FLAGS) {
-        printf("  %s: not read, its flags are %u and not %u\n", name, (unsigned)flags, (unsigned)FLAGS);
-        return 0;
-    }
-    if (*status == SECURESTORE_OK) {
-        *status = get(some_card, name, text, size);
-    }
-    if (*status != SECURESTORE_OK) {
-        printf("  %s: refused with %u, %s\n", name, (unsigned)*status, securestore_status_text(*status));
-        return 0;
-    }
-    printf("  %s: \"%s\"\n", name, text);
-    return 1;
+    return securestore_get_info(some_card, sizeof card, chip, sizeof chip, DEVICE_KEY, sizeof DEVICE_KEY, (const uint8_t *)name, strlen(name), &data_size,
+                                &flags) == SECURESTORE_OK &&
+           flags == FLAGS;
 }
 
 /* Expects that the data are read and are this text. */
 static void expect_text(const uint8_t *some_card, const char *name, const char *want)
 {
     char text[SECURESTORE_DATA_MAX + 1];
-    securestore_status status;
-    check(read_protected(some_card, name, text, sizeof text, &status) && strcmp(text, want) == 0, want);
+    check(get(some_card, name, text, sizeof text) == SECURESTORE_OK && strcmp(text, want) == 0, want);
 }
 
 /* Expects that the store refuses with this status. */
 static void expect_refusal(const uint8_t *some_card, const char *name, securestore_status want)
 {
     char text[SECURESTORE_DATA_MAX + 1];
-    securestore_status status;
-    check(!read_protected(some_card, name, text, sizeof text, &status) && status == want, securestore_status_text(want));
+    check(get(some_card, name, text, sizeof text) == want, securestore_status_text(want));
 }
 
 /* A name's bytes come from the card and may be any but control bytes and 0x7f: what is not ASCII is shown as \xNN, not sent to the terminal. */
@@ -139,11 +128,9 @@ static void play(uint8_t *copy)
 
 static void put_back(uint8_t *copy)
 {
-    char text[SECURESTORE_DATA_MAX + 1];
     uint32_t data_size = 1, flags = 1;
     printf("The copy is put back. Its records are authentic, but the chip knows a newer one of player/1:\n");
     expect_refusal(copy, "player/1", SECURESTORE_ERR_ROLLBACK);
-    check(get(copy, "player/1", text, sizeof text) == SECURESTORE_ERR_ROLLBACK, "a get alone refuses the old record too");
     check(securestore_get_info(copy, sizeof card, chip, sizeof chip, DEVICE_KEY, sizeof DEVICE_KEY, (const uint8_t *)"player/1", 8, &data_size, &flags) ==
               SECURESTORE_ERR_ROLLBACK,
           "so is the question for its size and flags");
@@ -156,22 +143,29 @@ static void put_back(uint8_t *copy)
 }
 
 /* A record with flags 0 has no CMAC: it is made without the device key and without the chip. */
-static void forge(uint8_t *forged)
+static void forge(uint8_t *forged, const char *name, const char *lie)
 {
     static const uint8_t no_key[SECURESTORE_DEVICE_KEY_SIZE], no_iv[SECURESTORE_IV_SIZE];
     static uint8_t own_chip[sizeof chip];
-    static const char *lie = "sends: all muted";
-    char text[SECURESTORE_DATA_MAX + 1];
-    securestore_status status;
-    memset(forged, 0, sizeof card);
-    check(securestore_set(forged, sizeof card, own_chip, sizeof own_chip, no_key, sizeof no_key, (const uint8_t *)"player/1", 8, 0, no_iv, sizeof no_iv,
+    check(securestore_set(forged, sizeof card, own_chip, sizeof own_chip, no_key, sizeof no_key, (const uint8_t *)name, strlen(name), 0, no_iv, sizeof no_iv,
                           (const uint8_t *)lie, strlen(lie)) == SECURESTORE_OK,
           "a record without protection is made");
-    printf("Someone puts in a card with a record of player/1 that asks for no protection. A get alone accepts it:\n");
-    check(get(forged, "player/1", text, sizeof text) == SECURESTORE_OK && strcmp(text, lie) == 0, "a get checks what the stored flags ask for");
-    printf("  player/1: \"%s\"\n", text);
-    printf("The reader that compares the flags does not:\n");
-    check(!read_protected(forged, "player/1", text, sizeof text, &status) && status == SECURESTORE_OK, "the flags are not the ones that this box sets");
+}
+
+static void put_forged(uint8_t *forged)
+{
+    memset(forged, 0, sizeof card);
+    forge(forged, "player/1", "sends: all muted");
+    forge(forged, "player/3", "sends: all muted");
+    printf("Someone puts in a card with records that ask for no protection. The chip holds player/1, so that one is refused:\n");
+    expect_refusal(forged, "player/1", SECURESTORE_ERR_ROLLBACK);
+    printf("Its remove clears the card alone, and the chip still holds the name:\n");
+    check(securestore_remove(forged, sizeof card, chip, sizeof chip, (const uint8_t *)"player/1", 8) == SECURESTORE_OK, "the forged record is removed");
+    expect_refusal(forged, "player/1", SECURESTORE_ERR_ROLLBACK);
+    printf("The chip does not hold player/3, which this box never set, so a get serves it:\n");
+    expect_text(forged, "player/3", "sends: all muted");
+    check(!is_protected(forged, "player/3"), "its flags are not the ones that this box sets");
+    printf("A reader that may meet such names looks at the flags, and sees that nothing protects it.\n");
 }
 
 int main(void)
@@ -179,9 +173,10 @@ int main(void)
     static uint8_t copy[sizeof card];
     play(copy);
     put_back(copy);
-    forge(copy);
+    put_forged(copy);
     printf("With the true card all is as it was, and player/1 can leave:\n");
     expect_text(card, "player/1", "sends: cello 3.5, piano 0.5");
+    check(is_protected(card, "player/1"), "its flags are the ones that this box sets");
     check(securestore_remove(card, sizeof card, chip, sizeof chip, (const uint8_t *)"player/1", 8) == SECURESTORE_OK, "player/1 leaves");
     expect_refusal(card, "player/1", SECURESTORE_ERR_NOT_FOUND);
     printf("Every answer was as expected.\n");

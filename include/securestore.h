@@ -23,9 +23,16 @@
  * must expect any of these bytes, also broken UTF-8 and 0x80 to 0x9f, which some terminals obey (examples/rollback.c shows what is not ASCII as \xNN).
  * Versions before 0.2.0 knew 0x21 to 0x7e alone. To a box with one of them a card or chip with another name is damaged: give all boxes 0.2.0 first.
  *
- * Protection is what the stored record's flags ask for, and these flags are on the card. A get of a record without integrity checks no CMAC, and one of
- * a record without replay protection does not ask the chip, also where the chip holds the name: whoever can write the card can put such a record
- * there. A caller that relies on protection asks securestore_get_info on the same buffers for the flags and compares them before it uses the data.
+ * Protection is what the stored record's flags ask for, and these flags are on the card; but a name that the chip holds is read and set with replay
+ * protection alone. The chip holds it from a set with replay protection until such a record of it is removed or all is reset. In this time get and get_info
+ * answer 0 only for a record with replay protection whose CMAC is right and equal to the chip's: an old record, whose CMAC is another, is refused, and so is
+ * one that asks for less, whoever put it on the card. A set without replay protection is refused too.
+ * Where the chip does not hold the name (never set so, removed, or a chip that was reset or exchanged), a record with replay protection is refused and any
+ * other is judged by its own flags alone: without replay protection nothing tells how old it is, without integrity nothing tells who wrote it, and whoever
+ * can write the card can put it there. A caller for whom this matters asks securestore_get_info on the same buffers for the flags, and compares them before
+ * it uses the data.
+ * Versions before 0.5.0 did not ask the chip about a record without replay protection, and stored one where the chip held the name. Nothing on the media is
+ * new: a box with an older version still serves such a record, and here it answers 12. How to clear it stands below, at Chip slots left over.
  *
  * Records in chunks (incremental set). A record that arrives in pieces, over the air say, is set by three calls: set_start makes a handle of name, flags,
  * IV and declared size, set_add_data puts each chunk behind the one before it, and set_finalize stores what is held. However the data were divided, it
@@ -46,19 +53,24 @@
  * or remove changes the card alone. With it, power lost between the two writes leaves one of two states. In both, get and get_info answer 12 and reset 0.
  * - The card has the record, the chip has another CMAC or none. A set with the record's flags answers 0, and so does a remove. If the record is write
  *   once, every set and every remove answers 7 until a reset; only writing the chip's buffer after all, if it was kept, completes the set.
- * - The chip has the name, the card has not. Remove answers 6, a set with write once 7, a set without write once 0, whatever the lost record's flags.
- *   Clearing the chip's slot, as below, makes the name free again, for write once too; no reset is needed.
+ * - The chip has the name, the card has not. Whatever the lost record's flags, remove answers 6, a set with write once 7, any other set 12 without replay
+ *   protection and 0 with it. Clearing the chip's slot, as below, makes the name free again, for any flags; no reset is needed.
  * So write the chip first: a write-once set then ends in the second state, and a remove can be repeated. A reset can be repeated in either order.
  *
- * Chip slots without a record. They remain after a power loss as above, or where another card is put in, and they occupy the chip. The iterator gives
- * the card's names alone, not theirs. In the chip's buffer a used slot has 1 in byte 0, the name's length in byte 1, the name from byte 2 on.
- * To clear one, set the name with integrity and replay protection but not write once (flags 12 or 14, any data), then remove it. This needs a free slot
- * on the card (else the set answers 10) and none in the chip, and it leaves the card's bytes as they were. If the set is without replay protection, the
- * remove clears the card's slot alone and the chip's remains.
+ * Chip slots left over. After a power loss as above, or where another card is put in or someone wrote to it, the chip may hold a name that the card lacks
+ * or has in a record without replay protection. Get and get_info answer 12 (11 if that record's CMAC is wrong), and the slot occupies the chip. The iterator
+ * gives the card's names alone. In the chip's buffer a used slot has 1 in byte 0, the name's length in byte 1, the name from byte 2 on. To clear one:
+ * - The card lacks the name. Set it with integrity and replay protection but not write once (flags 12 or 14, any data), then remove it. This needs a free
+ *   slot on the card (else the set answers 10) and none in the chip, and it leaves the card's bytes as they were.
+ * - The card has a record of it without replay protection. No set answers 0; one with the record's flags answers 12. Remove clears the card's slot and keeps
+ *   the chip's: now the card lacks the name, and it has a free slot.
+ * - That record is write once, too. Every set and every remove answers 7. What helps is the right card, or the record's slot made all zero in the card's
+ *   buffer (now the card lacks the name), or a reset.
  *
  * Write once makes set and remove answer 7 while the card has the record. It protects neither from a reset nor from whoever can write or exchange the
- * card: on a blank card (all zero) the name is free again, and any set answers 0. Only if the chip has the name, that is for a record with replay
- * protection, get then answers 12 and a set with write once 7; a set without write once answers 0 even then.
+ * card: on a blank card (all zero) the name is free again, and any set that finds room answers 0. Only if the chip has the name, that is for a record with
+ * replay protection, get then answers 12, a set with write once 7 and any other set without replay protection 12; a set with flags 12 or 14 answers 0 even
+ * then.
  *
  * Erased flash. Empty is all zero. A card or chip of 0xff, or with one slot of 0xff, is damaged: every call on it but reset answers 2. Make new media
  * all zero first, by a reset; for a new card beside a chip in use, whose contents a reset would clear, make the card's buffer alone all zero.
@@ -74,9 +86,9 @@
 
 /* Version of header and library. */
 #define SECURESTORE_VERSION_MAJOR 0
-#define SECURESTORE_VERSION_MINOR 4
+#define SECURESTORE_VERSION_MINOR 5
 #define SECURESTORE_VERSION_PATCH 0
-#define SECURESTORE_VERSION_STRING "0.4.0"
+#define SECURESTORE_VERSION_STRING "0.5.0"
 
 /* What the store's calls return: one of these numbers. */
 typedef uint32_t securestore_status;
@@ -93,7 +105,7 @@ typedef uint32_t securestore_status;
 #define SECURESTORE_ERR_FLAGS_MISMATCH 9u /* the flags differ from the stored ones */
 #define SECURESTORE_ERR_NO_SPACE 10u      /* no free slot on the card or in the chip */
 #define SECURESTORE_ERR_AUTHENTICATION 11u /* the record's CMAC is wrong */
-#define SECURESTORE_ERR_ROLLBACK 12u      /* the chip knows another record of this name, or none, or the card has lost it: an old or changed card */
+#define SECURESTORE_ERR_ROLLBACK 12u      /* card and chip disagree about the name: an old, changed or exchanged card, or power lost between the writes */
 #define SECURESTORE_ERR_INVALID_KEY_FILE 13u /* not a key file, or more material than one holds */
 #define SECURESTORE_ERR_OFFSET 14u        /* the offset lies beyond the data */
 #define SECURESTORE_ERR_TRANSFER_SIZE 19u /* a chunk past the declared size, a finalize short of it, or a handle whose sizes do not fit */
@@ -180,7 +192,8 @@ static inline const char *securestore_status_text(securestore_status status)
  * Tests: 1 lengths (card, chip, key of 16, IV of 8), 2 damage, 3 name, 4 flags, 5 data over 480;
  * where the card holds the name: 8, then 7 if the old or the new flags say write once, then 9;
  * where it does not: 7 if the new flags say write once and the chip holds the name;
- * then in both cases 10 if the card lacks the name and has no free slot, or replay protection is asked for, the chip lacks the name and has no free slot. */
+ * then in both cases 12 if replay protection is not asked for and the chip holds the name;
+ * then 10 if the card lacks the name and has no free slot, or replay protection is asked for, the chip lacks the name and has no free slot. */
 securestore_status securestore_set(uint8_t *kv, size_t kv_len, uint8_t *rbp, size_t rbp_len, const uint8_t *device_key, size_t device_key_len,
                                    const uint8_t *name, size_t name_len, uint32_t flags, const uint8_t *iv, size_t iv_len, const uint8_t *data,
                                    size_t data_len);
@@ -188,7 +201,8 @@ securestore_status securestore_set(uint8_t *kv, size_t kv_len, uint8_t *rbp, siz
 /* Reads a record's data from an offset: *count is the smaller of output_len and what lies behind the offset, and so many bytes are written to the
  * front of output; the rest of it is as before. Plaintext is written only after all tests.
  * Tests: 1 lengths, 2 damage, 3 name; not on the card: 12 if the chip holds the name, else 6;
- * 8; 11 where integrity is flagged; 12 where replay protection is flagged and the chip's copy is absent or differs; 14. */
+ * 8; 11 where integrity is flagged; 12 where replay protection is flagged and the chip's copy is absent or differs, or where it is not flagged and the
+ * chip holds the name; 14. */
 securestore_status securestore_get(const uint8_t *kv, size_t kv_len, const uint8_t *rbp, size_t rbp_len, const uint8_t *device_key,
                                    size_t device_key_len, const uint8_t *name, size_t name_len, size_t offset, uint8_t *output, size_t output_len,
                                    size_t *count);
@@ -197,7 +211,8 @@ securestore_status securestore_get(const uint8_t *kv, size_t kv_len, const uint8
 securestore_status securestore_get_info(const uint8_t *kv, size_t kv_len, const uint8_t *rbp, size_t rbp_len, const uint8_t *device_key,
                                         size_t device_key_len, const uint8_t *name, size_t name_len, uint32_t *data_size, uint32_t *flags);
 
-/* Clears the name's slot on the card, and with replay protection the one in the chip.
+/* Clears the name's slot on the card, and with replay protection the one in the chip. If the card's record is without it, a chip slot of the name is kept,
+ * and get then answers 12. No CMAC is checked: to remove a record that says replay protection frees the name in the chip, whoever put the record there.
  * Tests: 1 lengths, 2 damage, 3 name, 6 not on the card, 8, 7 if the record is written once. */
 securestore_status securestore_remove(uint8_t *kv, size_t kv_len, uint8_t *rbp, size_t rbp_len, const uint8_t *name, size_t name_len);
 

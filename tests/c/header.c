@@ -73,7 +73,7 @@ static void test_version(void)
     char text[64];
     sprintf(text, "%d.%d.%d", SECURESTORE_VERSION_MAJOR, SECURESTORE_VERSION_MINOR, SECURESTORE_VERSION_PATCH);
     expect(strcmp(text, SECURESTORE_VERSION_STRING) == 0, "version: string and numbers agree");
-    expect(strcmp(SECURESTORE_VERSION_STRING, "0.4.0") == 0, "version: 0.4.0");
+    expect(strcmp(SECURESTORE_VERSION_STRING, "0.5.0") == 0, "version: 0.5.0");
 }
 
 static void test_aes(void)
@@ -278,7 +278,7 @@ static void test_name_bytes(void)
         entry[0] = entry[1] = 1;
         entry[2] = name[0];
         in_chip += securestore_get(one, sizeof one, entry, sizeof entry, KEY, sizeof KEY, NAME, 1, 0, buf, sizeof buf, &count)
-                   != (out ? SECURESTORE_ERR_CORRUPT : SECURESTORE_OK);
+                   != (out ? SECURESTORE_ERR_CORRUPT : byte == 'a' ? SECURESTORE_ERR_ROLLBACK : SECURESTORE_OK);
     }
     expect(given == 0, "names: each byte given");
     expect(on_card == 0, "names: each byte on the card");

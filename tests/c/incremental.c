@@ -359,11 +359,19 @@ static void test_finalize_lengths(void)
     }
 }
 
-/* 19 stands straight after 1: before damage, name, flags and all that the card says. Then the order is that of a set. */
+/* The chip knows player/1, and the card has nothing. */
+static void leave_over(void)
+{
+    expect_status(set("player/1", 12, data, 9), SECURESTORE_OK, "left over: set");
+    memset(now.kv, 0, CARD);
+}
+
+/* 19 stands straight after 1: before damage, name, flags and all that card and chip say. Then the order is that of a set. */
 static void test_finalize_order(void)
 {
-    static const securestore_status order[] = {SECURESTORE_ERR_TRANSFER_SIZE,   SECURESTORE_ERR_CORRUPT,        SECURESTORE_ERR_INVALID_NAME,
-                                               SECURESTORE_ERR_INVALID_FLAGS, SECURESTORE_ERR_ALREADY_EXISTS, SECURESTORE_ERR_NO_SPACE};
+    static const securestore_status order[] = {SECURESTORE_ERR_TRANSFER_SIZE, SECURESTORE_ERR_CORRUPT,        SECURESTORE_ERR_INVALID_NAME,
+                                               SECURESTORE_ERR_INVALID_FLAGS, SECURESTORE_ERR_ALREADY_EXISTS, SECURESTORE_ERR_ROLLBACK,
+                                               SECURESTORE_ERR_NO_SPACE};
     unsigned faults;
     for (faults = 0; faults < 1u << COUNT_OF(order); faults++) {
         securestore_status want = SECURESTORE_OK;
@@ -374,13 +382,15 @@ static void test_finalize_order(void)
         blank();
         if (faults & 16) {
             expect_status(set("player/1", 13, data, 9), SECURESTORE_OK, "order: a write-once record");
+        } else if (faults & 32) {
+            leave_over();
         }
-        if (faults & 32) {
+        if (faults & 64) {
             expect_status(set("b", 12, data, 9), SECURESTORE_OK, "order: the card fills");
             expect_status(set("c", 12, data, 9), SECURESTORE_OK, "order: the card fills");
-            (void)set("d", 12, data, 9);
+            (void)set("d", 0, data, 9);
         }
-        arrive(faults & 4 ? "player\t1" : "player/1", faults & 8 ? 8 : 14, data, 38);
+        arrive(faults & 4 ? "player\t1" : "player/1", faults & 8 ? 8 : faults & 32 ? 6 : 14, data, 38);
         if (faults & 1) {
             put_field(SECURESTORE_SET_HANDLE_COUNT_AT, 37);
         }
@@ -481,6 +491,37 @@ static void test_card_as_it_then_is(void)
     expect(memcmp(now.kv + SECURESTORE_KV_SLOT_SIZE + 4, PLAYER, sizeof PLAYER) == 0, "then: it takes the lowest free slot");
 }
 
+/* Over a slot of the chip that is left over: the card lacks the name, or someone put a record on it that has these flags. */
+static void test_left_over(void)
+{
+    enum { NONE = 16 };
+    static const struct {
+        uint32_t stored, given;
+        securestore_status want;
+    } rows[] = {{NONE, 0, 12}, {NONE, 1, 7}, {NONE, 2, 12}, {NONE, 3, 7}, {NONE, 4, 12}, {NONE, 5, 7}, {NONE, 6, 12}, {NONE, 7, 7}, {NONE, 12, 0},
+                {NONE, 13, 7}, {NONE, 14, 0}, {NONE, 15, 7}, {0, 0, 12}, {2, 2, 12}, {4, 4, 12}, {6, 6, 12}, {0, 14, 9}, {6, 14, 9}, {0, 1, 7}, {1, 14, 7}};
+    size_t i;
+    for (i = 0; i < COUNT_OF(rows); i++) {
+        uint8_t chip[CHIP];
+        blank();
+        leave_over();
+        if (rows[i].stored != NONE) {
+            memcpy(chip, now.rbp, CHIP);
+            memset(now.rbp, 0, CHIP);
+            expect_status(set("player/1", rows[i].stored, data + 1, 50), SECURESTORE_OK, "left over: a record is planted");
+            memcpy(now.rbp, chip, CHIP);
+        }
+        arrive("player/1", rows[i].given, data, 38);
+        before = now;
+        expect_status(finalize(), rows[i].want, "left over: finalize");
+        expect(rows[i].want == SECURESTORE_OK || unchanged(), "left over: a refusal changes nothing");
+        memset(now.kv, 0, CARD);
+        expect_status(set("player/1", 12, data, 0), SECURESTORE_OK, "left over: the chip's slot is cleared");
+        expect_status(remove_named("player/1"), SECURESTORE_OK, "left over: by a set and a remove");
+        expect_status(finalize(), SECURESTORE_OK, "left over: then the same handle is stored");
+    }
+}
+
 /* A finalized handle is not used up: again it is a set of the same bytes. */
 static void test_again(void)
 {
@@ -574,7 +615,7 @@ int main(void)
 {
     static void (*const tests[])(void) = {test_handle_bytes, test_handle_fields, test_start_refusals, test_far_too_long, test_add, test_add_lengths,
                                           test_any_handle, test_whole_handles, test_finalize_lengths, test_finalize_order, test_divided, test_short,
-                                          test_card_as_it_then_is, test_again, test_changed_between, test_two_at_once, test_inputs};
+                                          test_card_as_it_then_is, test_left_over, test_again, test_changed_between, test_two_at_once, test_inputs};
     unsigned passed = 0, failed = 0;
     size_t i;
     make_inputs();

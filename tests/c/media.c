@@ -1,5 +1,6 @@
-/* Holds what securestore.h says about media against the library: power lost between the two writes, chip slots without a record, write once under another
- * card, erased flash. A statement there that is false fails here. Compiled as C99 and as C++. The last line is 'N passed, M failed'. */
+/* Holds what securestore.h says about media against the library: records that ask for less protection than the chip has, power lost between the two
+ * writes, chip slots left over, write once under another card, erased flash. A statement there that is false fails here. Compiled as C99 and as C++.
+ * The last line is 'N passed, M failed'. */
 #include <stdio.h>
 #include <string.h>
 
@@ -20,6 +21,23 @@ static const uint8_t KEY[16] = {0x2b, 0x7e, 0x15, 0x16, 0x28, 0xae, 0xd2, 0xa6, 
 /* All flags that a set accepts. */
 static const uint32_t FLAGS[] = {0, 1, 2, 3, 4, 5, 6, 7, 12, 13, 14, 15};
 #define FLAGS_COUNT (sizeof FLAGS / sizeof FLAGS[0])
+
+/* What a set with each of them answers where the chip holds the name and the card lacks it: with a free slot on the card, and with none. */
+static const securestore_status LEFT_OVER[FLAGS_COUNT] = {12, 7, 12, 7, 12, 7, 12, 7, 0, 7, 0, 7};
+static const securestore_status LEFT_OVER_FULL[FLAGS_COUNT] = {12, 7, 12, 7, 12, 7, 12, 7, 10, 7, 10, 7};
+
+/* The same where the card has a record without replay protection, with the flags 'stored'; and what a remove answers. */
+static const struct planted {
+    uint32_t stored;
+    securestore_status remove, set[FLAGS_COUNT];
+} PLANTED[] = {{0, 0, {12, 7, 9, 7, 9, 7, 9, 7, 9, 7, 9, 7}}, {1, 7, {7, 7, 7, 7, 7, 7, 7, 7, 7, 7, 7, 7}},
+               {2, 0, {9, 7, 12, 7, 9, 7, 9, 7, 9, 7, 9, 7}}, {3, 7, {7, 7, 7, 7, 7, 7, 7, 7, 7, 7, 7, 7}},
+               {4, 0, {9, 7, 9, 7, 12, 7, 9, 7, 9, 7, 9, 7}}, {5, 7, {7, 7, 7, 7, 7, 7, 7, 7, 7, 7, 7, 7}},
+               {6, 0, {9, 7, 9, 7, 9, 7, 12, 7, 9, 7, 9, 7}}, {7, 7, {7, 7, 7, 7, 7, 7, 7, 7, 7, 7, 7, 7}}};
+#define PLANTED_COUNT (sizeof PLANTED / sizeof PLANTED[0])
+
+/* And where the name is free. */
+static const securestore_status FREE[FLAGS_COUNT] = {0, 0, 0, 0, 0, 0, 0, 0, 0, 0, 0, 0};
 
 /* Answers that were not as expected. A test passes if it has none. */
 static unsigned wrong;
@@ -53,12 +71,22 @@ static securestore_status set_named(const char *name, uint32_t flags)
                            sizeof data);
 }
 
+static securestore_status get_from(const char *name, size_t offset)
+{
+    uint8_t output[SECURESTORE_DATA_MAX], as_lent[sizeof output];
+    size_t count = 99;
+    securestore_status status;
+    memset(output, 0xee, sizeof output);
+    memcpy(as_lent, output, sizeof output);
+    status = securestore_get(now.kv, sizeof now.kv, now.rbp, sizeof now.rbp, KEY, sizeof KEY, (const uint8_t *)name, strlen(name), offset, output,
+                             sizeof output, &count);
+    expect(status == SECURESTORE_OK || (count == 0 && memcmp(output, as_lent, sizeof output) == 0), "get: a refusal hands nothing out");
+    return status;
+}
+
 static securestore_status get_named(const char *name)
 {
-    uint8_t output[SECURESTORE_DATA_MAX];
-    size_t count;
-    return securestore_get(now.kv, sizeof now.kv, now.rbp, sizeof now.rbp, KEY, sizeof KEY, (const uint8_t *)name, strlen(name), 0, output, sizeof output,
-                           &count);
+    return get_from(name, 0);
 }
 
 static securestore_status remove_named(const char *name)
@@ -78,13 +106,30 @@ static securestore_status get(void)
 
 static securestore_status get_info(uint32_t *flags)
 {
-    uint32_t data_size;
-    return securestore_get_info(now.kv, sizeof now.kv, now.rbp, sizeof now.rbp, KEY, sizeof KEY, (const uint8_t *)"a", 1, &data_size, flags);
+    uint32_t data_size = 99;
+    securestore_status status =
+        securestore_get_info(now.kv, sizeof now.kv, now.rbp, sizeof now.rbp, KEY, sizeof KEY, (const uint8_t *)"a", 1, &data_size, flags);
+    expect(status == SECURESTORE_OK || (data_size == 0 && *flags == 0), "get_info: a refusal gives zeros");
+    return status;
 }
 
 static securestore_status remove_it(void)
 {
     return remove_named("a");
+}
+
+/* A key, with an identifier for its name. */
+static securestore_status save_key(uint32_t flags)
+{
+    tried_flags = flags;
+    return securestore_save_key(now.kv, sizeof now.kv, now.rbp, sizeof now.rbp, KEY, sizeof KEY, 42, 1, 2, 3, 4, 5, KEY, sizeof KEY, flags, KEY, 8);
+}
+
+static securestore_status load_key(void)
+{
+    uint8_t key_buf[SECURESTORE_KEY_FILE_MAX];
+    size_t count;
+    return securestore_load_key(now.kv, sizeof now.kv, now.rbp, sizeof now.rbp, KEY, sizeof KEY, 42, key_buf, sizeof key_buf, &count);
 }
 
 static securestore_status reset(void)
@@ -114,6 +159,16 @@ static int chip_has(const char *name)
     return 0;
 }
 
+/* The card's slot of the name in question, the only name of one byte; the last slot if the card has not the name. */
+static uint8_t *card_slot(void)
+{
+    size_t i = 0;
+    while (i < SLOTS - 1 && memcmp(now.kv + i * SECURESTORE_KV_SLOT_SIZE, "\1\1", 2) != 0) {
+        i++;
+    }
+    return now.kv + i * SECURESTORE_KV_SLOT_SIZE;
+}
+
 static int card_is(const struct media *want)
 {
     return memcmp(now.kv, want->kv, sizeof now.kv) == 0;
@@ -130,6 +185,33 @@ static void begin(void)
     now = BLANK;
     expect_status(set_named("other", 14), SECURESTORE_OK, "begin: another record");
     before = now;
+}
+
+/* A call that stores something with these flags: set or save_key. */
+typedef securestore_status store_call(uint32_t flags);
+
+/* Tries it with all flags on the media as they are, which a refusal leaves and which are put back. */
+static void try_all_flags(store_call *store, const securestore_status want[FLAGS_COUNT], const char *what)
+{
+    const struct media then = now;
+    size_t i;
+    for (i = 0; i < FLAGS_COUNT; i++) {
+        expect_status(store(FLAGS[i]), want[i], what);
+        expect(want[i] == SECURESTORE_OK || (card_is(&then) && chip_is(&then)), "a refusal changes nothing");
+        now = then;
+    }
+}
+
+/* A record that someone puts on the card of 'before', with any flags; it is authentic where it asks for integrity. The chip is not asked. */
+static void plant(store_call *store, uint32_t flags)
+{
+    uint8_t chip[sizeof now.rbp];
+    memcpy(chip, now.rbp, sizeof chip);
+    memcpy(now.kv, before.kv, sizeof now.kv);
+    memset(now.rbp, 0, sizeof now.rbp);
+    stored_flags = flags;
+    expect_status(store(flags), SECURESTORE_OK, "plant: set beside an empty chip");
+    memcpy(now.rbp, chip, sizeof chip);
 }
 
 /* Power is lost between the two writes of a call that changed the media from 'before': only the card, or only the chip, has been written. */
@@ -184,24 +266,24 @@ static void cut_reset(uint32_t flags, enum written written)
     lose_power(written);
 }
 
-/* What holds in both states: 12 for get and get_info, and a reset frees the name. The media stay as they were. */
-static void check_lost(void)
+/* What holds wherever card and chip disagree: 12 for get and get_info, and a reset frees the name. The media stay as they were. */
+static void check_rollback(void)
 {
-    const struct media cut = now;
+    const struct media then = now;
     uint32_t flags = 99;
-    expect_status(get(), SECURESTORE_ERR_ROLLBACK, "power: get");
-    expect_status(get_info(&flags), SECURESTORE_ERR_ROLLBACK, "power: get_info");
-    expect_status(reset(), SECURESTORE_OK, "power: reset");
-    expect(card_is(&BLANK) && chip_is(&BLANK), "power: reset clears both");
-    expect_status(set(13), SECURESTORE_OK, "power: after a reset the name is free");
-    now = cut;
+    expect_status(get(), SECURESTORE_ERR_ROLLBACK, "rollback: get");
+    expect_status(get_info(&flags), SECURESTORE_ERR_ROLLBACK, "rollback: get_info");
+    expect_status(reset(), SECURESTORE_OK, "rollback: reset");
+    expect(card_is(&BLANK) && chip_is(&BLANK), "rollback: reset clears both");
+    try_all_flags(set, FREE, "rollback: after a reset the name is free");
+    now = then;
 }
 
 /* First state, not write once: a set with the record's flags works, and so does a remove, which clears what the chip has. */
 static void check_card_has_it(uint32_t flags)
 {
     const struct media cut = now;
-    check_lost();
+    check_rollback();
     expect_status(set(flags), SECURESTORE_OK, "card has the record: set with its flags");
     expect_status(get(), SECURESTORE_OK, "card has the record: get after the set");
     now = cut;
@@ -216,7 +298,7 @@ static void check_card_has_it_write_once(void)
 {
     const struct media cut = now;
     size_t i;
-    check_lost();
+    check_rollback();
     for (i = 0; i < FLAGS_COUNT; i++) {
         expect_status(set(FLAGS[i]), SECURESTORE_ERR_ALREADY_EXISTS, "card has the write-once record: set");
     }
@@ -224,50 +306,29 @@ static void check_card_has_it_write_once(void)
     expect(card_is(&cut) && chip_is(&cut), "card has the write-once record: refusals change nothing");
 }
 
-/* Clears a chip slot without a record by a set with these flags and a remove; the card's bytes are as they were. */
+/* Clears a chip slot left over by a set with these flags and a remove; the card's bytes are as they were. */
 static void check_clear(uint32_t flags)
 {
-    const struct media cut = now;
+    const struct media then = now;
     expect_status(set(flags), SECURESTORE_OK, "clear: set");
     expect_status(get(), SECURESTORE_OK, "clear: get");
     expect_status(remove_it(), SECURESTORE_OK, "clear: remove");
-    expect(!chip_has("a") && card_is(&cut), "clear: the chip's slot is free and the card as it was");
+    expect(!chip_has("a") && card_is(&then), "clear: the chip's slot is free and the card as it was");
     expect_status(get(), SECURESTORE_ERR_NOT_FOUND, "clear: get after the remove");
-    expect_status(set(13), SECURESTORE_OK, "clear: the name is free for write once");
-    now = cut;
-}
-
-/* A set without replay protection works, but the remove after it leaves the chip's slot. */
-static void check_no_clear(uint32_t flags)
-{
-    const struct media cut = now;
-    expect_status(set(flags), SECURESTORE_OK, "no clear: set");
-    expect_status(get(), SECURESTORE_OK, "no clear: get");
-    expect_status(remove_it(), SECURESTORE_OK, "no clear: remove");
-    expect(card_is(&cut) && chip_is(&cut), "no clear: the chip's slot remains");
-    expect_status(get(), SECURESTORE_ERR_ROLLBACK, "no clear: get after the remove");
-    now = cut;
+    try_all_flags(set, FREE, "clear: the name is free");
+    now = then;
 }
 
 /* Second state, whatever flags the lost record had: the chip has the name, the card has not. */
 static void check_chip_has_it(void)
 {
-    const struct media cut = now;
-    size_t i;
-    check_lost();
+    check_rollback();
     expect(chip_has("a"), "chip has the name: it is in the chip's buffer");
     expect_status(find("a"), SECURESTORE_ERR_NOT_FOUND, "chip has the name: the iterator does not give it");
     expect_status(remove_it(), SECURESTORE_ERR_NOT_FOUND, "chip has the name: remove");
-    for (i = 0; i < FLAGS_COUNT; i++) {
-        if (FLAGS[i] & SECURESTORE_WRITE_ONCE) {
-            expect_status(set(FLAGS[i]), SECURESTORE_ERR_ALREADY_EXISTS, "chip has the name: set with write once");
-            expect(card_is(&cut) && chip_is(&cut), "chip has the name: a refusal changes nothing");
-        } else if (FLAGS[i] & SECURESTORE_REQUIRE_REPLAY_PROTECTION) {
-            check_clear(FLAGS[i]);
-        } else {
-            check_no_clear(FLAGS[i]);
-        }
-    }
+    try_all_flags(set, LEFT_OVER, "chip has the name: set");
+    check_clear(12);
+    check_clear(14);
 }
 
 /* Without replay protection the chip is not changed: one write, so either all of the call is stored or nothing. */
@@ -335,6 +396,11 @@ static void test_power_write_once(void)
     }
 }
 
+static securestore_status set_b(uint32_t flags)
+{
+    return set_named("b", flags);
+}
+
 /* The room that clearing a chip's slot needs. */
 static void test_clear_room(void)
 {
@@ -351,11 +417,110 @@ static void test_clear_room(void)
     expect_status(set_named("d", PROTECTED), SECURESTORE_OK, "room: the chip has a free slot");
     expect_status(set_named("e", 0), SECURESTORE_OK, "room: set e");
     expect_status(set_named("f", 0), SECURESTORE_OK, "room: the card is full");
-    expect_status(set_named("b", PROTECTED), SECURESTORE_ERR_NO_SPACE, "room: clearing needs a free slot on the card");
+    try_all_flags(set_b, LEFT_OVER_FULL, "room: clearing needs a free slot on the card");
     expect_status(remove_named("f"), SECURESTORE_OK, "room: remove f");
     expect_status(set_named("b", PROTECTED), SECURESTORE_OK, "room: set b");
     expect_status(remove_named("b"), SECURESTORE_OK, "room: remove b");
     expect(!chip_has("b") && chip_has("c") && chip_has("d"), "room: one slot is cleared");
+}
+
+/* Where 12 stands in a get of a planted record: after 8 and 11, before 14. */
+static void check_planted_order(uint32_t stored)
+{
+    uint8_t *record = card_slot() + 68;
+    record[2]++;
+    expect_status(get(), SECURESTORE_ERR_INVALID_RECORD, "planted: another revision");
+    record[2]--;
+    record[20]++;
+    expect_status(get(), stored & SECURESTORE_REQUIRE_INTEGRITY ? SECURESTORE_ERR_AUTHENTICATION : SECURESTORE_ERR_ROLLBACK, "planted: changed data");
+    record[20]--;
+    expect_status(get_from("a", SECURESTORE_DATA_MAX + 1), SECURESTORE_ERR_ROLLBACK, "planted: an offset beyond the data");
+}
+
+/* The chip holds the name, and the card a record that does not ask for it. The ways out: the right card; the card's slot cleared, by a remove or, if that
+ * is refused, by hand, and then the chip's. */
+static void check_planted(const struct planted *row, const struct media *right)
+{
+    const struct media then = now;
+    check_rollback();
+    check_planted_order(row->stored);
+    expect_status(find("a"), SECURESTORE_OK, "planted: the iterator gives the name");
+    expect_status(get_named("other"), SECURESTORE_OK, "planted: the other record");
+    try_all_flags(set, row->set, "planted: set");
+    expect_status(remove_it(), row->remove, "planted: remove");
+    if (row->remove != SECURESTORE_OK) {
+        expect(card_is(&then) && chip_is(&then), "planted: a refused remove changes nothing");
+        memset(card_slot(), 0, SECURESTORE_KV_SLOT_SIZE);
+    }
+    expect(card_is(&before) && chip_is(&then), "planted: the card's slot alone is cleared");
+    check_chip_has_it();
+    memcpy(now.kv, right->kv, sizeof now.kv);
+    expect_status(get(), SECURESTORE_OK, "planted: with the right card");
+}
+
+/* Whatever replay protected record the chip knows; on a card that is full, so that the slot which is cleared is the one that the way out needs. */
+static void test_planted(void)
+{
+    static const uint32_t known[] = {12, 13, 14, 15};
+    size_t i, j;
+    for (i = 0; i < sizeof known / sizeof known[0]; i++) {
+        for (j = 0; j < PLANTED_COUNT; j++) {
+            struct media right;
+            begin();
+            expect_status(set_named("third", 0), SECURESTORE_OK, "planted: one slot is left");
+            before = now;
+            expect_status(set(known[i]), SECURESTORE_OK, "planted: the chip knows the name");
+            right = now;
+            plant(set, PLANTED[j].stored);
+            check_planted(&PLANTED[j], &right);
+        }
+    }
+}
+
+/* A key is judged in the same way. */
+static void test_planted_key(void)
+{
+    size_t j;
+    for (j = 0; j < PLANTED_COUNT; j++) {
+        begin();
+        expect_status(save_key(14), SECURESTORE_OK, "planted key: the chip knows its name");
+        plant(save_key, PLANTED[j].stored);
+        expect_status(load_key(), SECURESTORE_ERR_ROLLBACK, "planted key: load_key");
+        try_all_flags(save_key, PLANTED[j].set, "planted key: save_key");
+        memcpy(now.kv, before.kv, sizeof now.kv);
+        expect_status(load_key(), SECURESTORE_ERR_ROLLBACK, "planted key: load_key without the record");
+        try_all_flags(save_key, LEFT_OVER, "planted key: save_key without the record");
+    }
+}
+
+/* A name that the chip does not hold: a planted record is judged by its own flags. Without integrity changed data are not told either. */
+static void check_not_in_chip(const char *what)
+{
+    size_t i;
+    for (i = 0; i < FLAGS_COUNT; i++) {
+        const int asks = (FLAGS[i] & SECURESTORE_REQUIRE_REPLAY_PROTECTION) != 0, sealed = (FLAGS[i] & SECURESTORE_REQUIRE_INTEGRITY) != 0;
+        uint32_t flags = 99;
+        plant(set, FLAGS[i]);
+        expect_status(get(), asks ? SECURESTORE_ERR_ROLLBACK : SECURESTORE_OK, what);
+        expect_status(get_info(&flags), asks ? SECURESTORE_ERR_ROLLBACK : SECURESTORE_OK, what);
+        expect(flags == (asks ? 0 : FLAGS[i]), "not in the chip: get_info gives the record's flags");
+        card_slot()[68 + 20]++;
+        expect_status(get(), sealed ? SECURESTORE_ERR_AUTHENTICATION : SECURESTORE_OK, "not in the chip: changed data");
+    }
+}
+
+static void test_not_in_chip(void)
+{
+    begin();
+    check_not_in_chip("not in the chip: never");
+    begin();
+    expect_status(set(14), SECURESTORE_OK, "not in the chip: set");
+    expect_status(remove_it(), SECURESTORE_OK, "not in the chip: remove");
+    check_not_in_chip("not in the chip: removed");
+    begin();
+    expect_status(set(14), SECURESTORE_OK, "not in the chip: set");
+    memset(now.rbp, 0, sizeof now.rbp);
+    check_not_in_chip("not in the chip: another chip");
 }
 
 /* Write once while the card has the record, then under a blank card. */
@@ -372,7 +537,7 @@ static void test_write_once(void)
             with = now;
             expect_status(remove_it(), SECURESTORE_ERR_ALREADY_EXISTS, "write once: remove");
             for (j = 0; j < FLAGS_COUNT; j++) {
-                securestore_status want = in_chip && (FLAGS[j] & SECURESTORE_WRITE_ONCE) ? SECURESTORE_ERR_ALREADY_EXISTS : SECURESTORE_OK;
+                securestore_status want = in_chip ? LEFT_OVER[j] : FREE[j];
                 uint32_t flags = 99;
                 now = with;
                 expect_status(set(FLAGS[j]), SECURESTORE_ERR_ALREADY_EXISTS, "write once: set again");
@@ -394,9 +559,8 @@ static void test_write_once(void)
 static void check_damaged(void)
 {
     const struct media damaged = now;
-    uint8_t key_buf[SECURESTORE_KEY_FILE_MAX];
     uint32_t flags;
-    size_t i, count;
+    size_t i;
     for (i = 0; i < FLAGS_COUNT; i++) {
         expect_status(set(FLAGS[i]), SECURESTORE_ERR_CORRUPT, "0xff: set");
     }
@@ -404,10 +568,8 @@ static void check_damaged(void)
     expect_status(get_info(&flags), SECURESTORE_ERR_CORRUPT, "0xff: get_info");
     expect_status(remove_it(), SECURESTORE_ERR_CORRUPT, "0xff: remove");
     expect_status(find("a"), SECURESTORE_ERR_CORRUPT, "0xff: iterator_next");
-    expect_status(securestore_save_key(now.kv, sizeof now.kv, now.rbp, sizeof now.rbp, KEY, sizeof KEY, 42, 1, 2, 3, 4, 5, KEY, sizeof KEY, 14, KEY, 8),
-                  SECURESTORE_ERR_CORRUPT, "0xff: save_key");
-    expect_status(securestore_load_key(now.kv, sizeof now.kv, now.rbp, sizeof now.rbp, KEY, sizeof KEY, 42, key_buf, sizeof key_buf, &count),
-                  SECURESTORE_ERR_CORRUPT, "0xff: load_key");
+    expect_status(save_key(14), SECURESTORE_ERR_CORRUPT, "0xff: save_key");
+    expect_status(load_key(), SECURESTORE_ERR_CORRUPT, "0xff: load_key");
     expect(card_is(&damaged) && chip_is(&damaged), "0xff: refusals change nothing");
     expect_status(reset(), SECURESTORE_OK, "0xff: reset");
     expect(card_is(&BLANK) && chip_is(&BLANK), "0xff: reset makes both all zero");
@@ -448,7 +610,8 @@ static void test_erased_flash(void)
 
 int main(void)
 {
-    static void (*const tests[])(void) = {test_power_one_write, test_power, test_power_write_once, test_clear_room, test_write_once, test_erased_flash};
+    static void (*const tests[])(void) = {test_planted,    test_planted_key, test_not_in_chip, test_power_one_write, test_power, test_power_write_once,
+                                          test_clear_room, test_write_once,  test_erased_flash};
     unsigned passed = 0, failed = 0;
     size_t i;
     for (i = 0; i < sizeof tests / sizeof tests[0]; i++) {

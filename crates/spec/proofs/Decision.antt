@@ -45,6 +45,16 @@ pub unflagged : (flag test : Bool) → (flag ≡ true → test ≡ true) → (fl
 unflagged true test h = rw (h refl)
 unflagged false test h = refl
 
+-- a flag that is asked for where something is held
+pub held-flagged : (flag : Bool) (o : Option (List ℕ)) (t : List ℕ) → (not flag && isSome o) ≡ false → o ≡ some t → flag ≡ true
+held-flagged true o t h e = refl
+held-flagged false o t h e = clash (isSome o) (rw e) h
+
+pub flagged-held : (flag : Bool) (o : Option (List ℕ)) → ((t : List ℕ) → o ≡ some t → flag ≡ true) → (not flag && isSome o) ≡ false
+flagged-held true o h = refl
+flagged-held false none h = refl
+flagged-held false (some t) h = clash false (h t refl) refl
+
 module _ (P : ℕ → Bool) (name : Name) (flags : ℕ) (value : List ℕ) (b : Binding) (room : Room) where
   pub record Decided : Type 0 where
     pub name-valid : validName name ≡ true
@@ -52,6 +62,7 @@ module _ (P : ℕ → Bool) (name : Name) (flags : ℕ) (value : List ℕ) (b : 
     pub value-sized : length value ≤ maxDataSize
     pub known : (r : List ℕ) → b .stored ≡ some r → Replaceable flags r
     pub new : b .stored ≡ none → writeOnce flags ≡ true → b .tag ≡ none
+    pub not-downgraded : (t : List ℕ) → b .tag ≡ some t → P flags ≡ true
     pub kv-room : b .stored ≡ none → room .kv ≡ true
     pub rbp-room : P flags ≡ true → b .tag ≡ none → room .rbp ≡ true
 
@@ -59,7 +70,7 @@ module _ (P : ℕ → Bool) (name : Name) (flags : ℕ) (value : List ℕ) (b : 
   unfolding setHeld
   decided p =
       let h = p .1 .1 .1 in
-      let k = h .1 .1 .1 .1 in
+      let k = h .1 .1 .1 .1 .1 in
       record {
         name-valid = not-false-is (validName name) (p .0);
         flags-valid = not-false-is (validFlags flags) (p .1 .0);
@@ -73,6 +84,7 @@ module _ (P : ℕ → Bool) (name : Name) (flags : ℕ) (value : List ℕ) (b : 
               same-flags = eqb-true flags (flagsOf r) (not-false-is _ (held-is (b .stored) (λ r. not (eqb flags (flagsOf r))) r (h .1 .1 .0) e));
             };
         new = λ e w. splitO (b .tag) (λ z. z) (λ t z. clash (writeOnce flags && isSome (b .tag)) (rw (w, z)) (absent-is (b .stored) _ (h .1 .1 .1 .0) e));
+        not-downgraded = λ t e. held-flagged (P flags) (b .tag) t (h .1 .1 .1 .1 .0) e;
         kv-room = λ e. not-false-is (room .kv) (absent-is (b .stored) _ (k .0) e);
         rbp-room = λ e z. not-false-is (room .rbp) (absent-is (b .tag) _ (rw e at (k .1 .0)) z);
       }
@@ -100,7 +112,10 @@ module _ (P : ℕ → Bool) (name : Name) (flags : ℕ) (value : List ℕ) (b : 
               of-held (b .stored) (λ r. not (eqb flags (flagsOf r))) (λ r e. rw (eq-eqb flags (flagsOf r) (d .known r e .same-flags))),
               (
                 of-absent (b .stored) (writeOnce flags && isSome (b .tag)) (λ e. split (writeOnce flags) (λ w. rw (w, d .new e w)) (λ w. rw w)),
-                room-passed (d .kv-room) (d .rbp-room),
+                (
+                  flagged-held (P flags) (b .tag) (d .not-downgraded),
+                  room-passed (d .kv-room) (d .rbp-room),
+                ),
               ),
             ),
           ),

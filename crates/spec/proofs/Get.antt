@@ -23,7 +23,7 @@ use Rattle.buffers.proofs.Split.{splitO, clash, not-false-is}
 use Rattle.buffers.proofs.Bytes.{bytesEq-eq, eq-bytesEq}
 use Rattle.spec.proofs.Status.{Passed}
 use Rattle.spec.proofs.World.{run-done, accepted, acceptable}
-use Rattle.spec.proofs.Decision.{flagged, unflagged}
+use Rattle.spec.proofs.Decision.{flagged, unflagged, held-flagged, flagged-held}
 
 pub mac-eq : (key name r : List ℕ) → macOk key name r ≡ true → tagOf r ≡ cmac (derivedKey key authPrefix name) (name ++ (metadataOf r ++ storedDataOf r))
 unfolding macOk recordCmac authKey
@@ -66,7 +66,8 @@ module _ (kv rbp key name : List ℕ) (offset : ℕ) where
         valid = not-false-is (wellFormed r) (p .0);
         authentic = λ f. mac-eq key name r (flagged (requireIntegrity (flagsOf r)) (macOk key name r) (p .1 .0) f);
         fresh = λ f. match-eq (lookup rbpFormat rbp name) r (flagged (requireReplayProtection (flagsOf r)) (tagMatches (b .tag) r) (p .1 .1 .0) f);
-        in-range = leb-true offset (dataSizeOf r) (not-false-is (leb offset (dataSizeOf r)) (p .1 .1 .1 .0));
+        not-downgraded = λ t f. held-flagged (requireReplayProtection (flagsOf r)) (lookup rbpFormat rbp name) t (p .1 .1 .1 .0) f;
+        in-range = leb-true offset (dataSizeOf r) (not-false-is (leb offset (dataSizeOf r)) (p .1 .1 .1 .1 .0));
       })
 
   held-passed : (h : Readable kv rbp key name offset) → Passed (getTests requireReplayProtection key name offset b)
@@ -84,8 +85,11 @@ module _ (kv rbp key name : List ℕ) (offset : ℕ) where
             (
               unflagged _ _ (λ f. eq-match (lookup rbpFormat rbp name) (h .r) (h .fresh f)),
               (
-                rw (le-leb offset (dataSizeOf (h .r)) (h .in-range)),
-                tt,
+                flagged-held _ (lookup rbpFormat rbp name) (h .not-downgraded),
+                (
+                  rw (le-leb offset (dataSizeOf (h .r)) (h .in-range)),
+                  tt,
+                ),
               ),
             ),
           ),

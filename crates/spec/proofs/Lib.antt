@@ -27,6 +27,7 @@ pub mod Intact
 pub mod Shapes
 pub mod TagComparison
 pub mod Edges
+pub mod Downgrade
 pub mod Vocabulary
 pub mod Instance
 pub mod Theorems

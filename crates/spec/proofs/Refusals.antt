@@ -58,17 +58,19 @@ refusals kv rbp key name flags offset start iv value output prefix nameBuf =
     let named : Test = 3 when not (validName name) in
     let t = lookup rbpFormat rbp name in
     let room = chip kv rbp key name flags iv value in
+    let downgrade : Test = 12 when not (requireReplayProtection flags) && isSome t in
     record {
       set-known = λ r e. rw e (ends
-          (set ((8 when not (wellFormed r)) ∷ (7 when writeOnce (flagsOf r) || writeOnce flags) ∷ (9 when not (eqb flags (flagsOf r))) ∷ []))
+          (set ((8 when not (wellFormed r)) ∷ (7 when writeOnce (flagsOf r) || writeOnce flags) ∷ (9 when not (eqb flags (flagsOf r))) ∷ downgrade ∷ []))
           ((10 when room) ∷ []) 10 (one 10 room));
       set-new = λ e. rw e (ends
-          (set ((7 when writeOnce flags && isSome t) ∷ []))
+          (set ((7 when writeOnce flags && isSome t) ∷ downgrade ∷ []))
           ((10 when not (hasSpace kvFormat kv)) ∷ (10 when room) ∷ []) 10 (two 10 (not (hasSpace kvFormat kv)) room));
       get-known = λ r e. rw e (ends
           (keyed (
           named ∷ (8 when not (wellFormed r)) ∷ (11 when requireIntegrity (flagsOf r) && not (macOk key name r))
-          ∷ (12 when requireReplayProtection (flagsOf r) && not (tagMatches t r)) ∷ []))
+          ∷ (12 when requireReplayProtection (flagsOf r) && not (tagMatches t r))
+          ∷ (12 when not (requireReplayProtection (flagsOf r)) && isSome t) ∷ []))
           ((14 when not (leb offset (dataSizeOf r))) ∷ []) 14 (one 14 (not (leb offset (dataSizeOf r)))));
       get-absent = λ e h. rw e;
       info = refl;

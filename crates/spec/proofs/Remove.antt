@@ -79,7 +79,7 @@ module _ (kv rbp name : List ℕ) where
       rest = (rw (h .name-valid), rw (h .found) (refl, (rw (h .valid), (h .not-write-once, tt))));
     })
 
-    remove-done : storeRemove kv rbp name
+    pub remove-done : storeRemove kv rbp name
         ≡ done (areas (eraseSlot kvFormat kv name) (editArea rbpFormat rbp name (cond (requireReplayProtection (flagsOf (h .r))) clear keep))) [] []
     unfolding storeRemove removeEffect
     remove-done = run-done storeWorld (areas kv rbp) (removeRequest requireReplayProtection name) removable-ok ∙ rw (h .found)

@@ -2,6 +2,7 @@
 use mathlib.Core.Path.{_≡_, refl, ap, _∙_}
 use mathlib.Core.Bool.{true, false, cond, not, _||_}
 use mathlib.Core.List.{List, [], _∷_, _++_, append-nil}
+use mathlib.Core.Option.{some}
 use Prim.Native.Nat.{ℕ, _-_, _≤_, _<_, zero-le, min}
 use native.Mathlib.Omega.{arith}
 use borrow.Author.Tests.{eqb-true, eq-eqb, lt-ltb}
@@ -12,7 +13,8 @@ use Rattle.spec.specs.Status.{ok, Test, _when_}
 use Rattle.spec.specs.Record.{requireIntegrity, requireReplayProtection, validFlags, metadata, dataSizeOf, tagOf}
 use Rattle.spec.specs.Record.{encKey, authKey, crypt, recordCmac, sealedIv, sealedData, sealedTag, sealRecord, plaintext, Sealable}
 use Rattle.spec.specs.Slots.{firstIndex}
-use Rattle.spec.specs.Area.{Format, kvFormat, rbpFormat, slotFree, slotHolder, makeSlot, slots, hasSpace, target, insertSlot, Edit, keep, write, editArea}
+use Rattle.spec.specs.Area.{Format, kvFormat, rbpFormat, slotFree, slotHolder, makeSlot, slots, lookup, hasSpace, target, insertSlot}
+use Rattle.spec.specs.Area.{Edit, keep, write, editArea}
 use Rattle.spec.specs.Layout.{placeBytes, entryBytes}
 use Rattle.spec.specs.Request.{statusOf}
 use Rattle.spec.specs.Decisions.{keySized, ivSized, setHeld, setTests, setEffect, setRequest}
@@ -139,6 +141,14 @@ module _ (kv rbp key name : List ℕ) (flags : ℕ) (iv value : List ℕ) where
         (λ e. rw (rbp-written e) (insert-sound rbpFormat rbp-laws rbp name (tagOf sealed) (a .rbp-sound) rbp-good))
         (λ e. rw (rbp-unchanged e) (a .rbp-sound))
 
+    -- the chip then holds that record's CMAC
+    entry-sealed : requireReplayProtection flags ≡ true → lookup rbpFormat (after .rbp) name ≡ some (tagOf sealed)
+    entry-sealed e = rw (rbp-written e)
+        (lookup-insert rbpFormat rbp-laws rbp name (tagOf sealed) (a .rbp-sound) rbp-good (a .choice .rbp-room e))
+
+    pub entry-after : requireReplayProtection flags ≡ true → lookup rbpFormat (after .rbp) name ≡ some (tagMade key name flags iv value)
+    entry-after e = entry-sealed e ∙ ap some (tag-bytes key name flags iv value (a .sealable))
+
     -- ---- the round trip
 
     readable : Readable (after .kv) (after .rbp) key name 0
@@ -152,8 +162,10 @@ module _ (kv rbp key name : List ℕ) (flags : ℕ) (iv value : List ℕ) where
           found = rw kv-after (lookup-insert kvFormat kv-laws kv name sealed (a .kv-sound) kv-good (a .choice .kv-room));
           valid = sealed-valid key name flags iv value (a .sealable);
           authentic = λ e. mac-eq key name sealed (sealed-mac key name flags iv value (a .sealable) (rw f at e));
-          fresh = λ e. rw (rbp-written (rw f at e))
-              (lookup-insert rbpFormat rbp-laws rbp name (tagOf sealed) (a .rbp-sound) rbp-good (a .choice .rbp-room (rw f at e)));
+          fresh = λ e. entry-sealed (rw f at e);
+          not-downgraded = λ t e. rw f (split (requireReplayProtection flags)
+              (λ w. w)
+              (λ w. a .choice .not-downgraded t (rw (rbp-unchanged w) at e)));
           in-range = zero-le;
         }
 
@@ -224,6 +236,7 @@ module _ (kv rbp key name : List ℕ) (flags : ℕ) (iv value : List ℕ) where
         value-sized = d .value-sized;
         known = d .known;
         new = d .new;
+        not-downgraded = d .not-downgraded;
         kv-room = λ e. free-slot kvFormat kv (d .kv-room e);
         rbp-room = λ f e. free-slot rbpFormat rbp (d .rbp-room f e);
       }
@@ -239,6 +252,7 @@ module _ (kv rbp key name : List ℕ) (flags : ℕ) (iv value : List ℕ) where
           value-sized = h .value-sized;
           known = h .known;
           new = h .new;
+          not-downgraded = h .not-downgraded;
           kv-room = λ e. has-space kvFormat kv (h .kv-room e);
           rbp-room = λ f e. has-space rbpFormat rbp (h .rbp-room f e);
         });

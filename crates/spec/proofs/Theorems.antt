@@ -8,6 +8,7 @@ use Rattle.spec.specs.declared.incremental.IncSetHandle.{IncSetHandle}
 use Rattle.spec.specs.Demand3.{ClientIsolation, StepIsCall, ModelExact, Instance}
 use Rattle.spec.specs.Shapes.{Shapes}
 use Rattle.spec.specs.TagComparison.{TagComparison}
+use Rattle.spec.specs.Downgrade.{Downgrade}
 use Rattle.spec.specs.Edges.{Edges, Numerals}
 use Rattle.spec.specs.Vocabulary.{Vocabulary}
 use Rattle.spec.proofs.Demand1.{demand1-holds}
@@ -23,6 +24,7 @@ use Rattle.spec.proofs.ModelExact.{step-is-call, model-exact}
 use Rattle.spec.proofs.Instance.{instance}
 use Rattle.spec.proofs.Shapes.{shapes-hold}
 use Rattle.spec.proofs.TagComparison.{tag-comparison}
+use Rattle.spec.proofs.Downgrade.{downgrade}
 use Rattle.spec.proofs.Edges.{edges-hold, numerals-hold}
 use Rattle.spec.proofs.Vocabulary.{vocabulary-holds}
 
@@ -62,6 +64,9 @@ shapes = shapes-hold
 
 pub every-byte-compared : (key name r copy : List ℕ) → TagComparison key name r copy
 every-byte-compared = tag-comparison
+
+pub old-cards : Downgrade
+old-cards = downgrade
 
 pub edges : Edges
 edges = edges-hold

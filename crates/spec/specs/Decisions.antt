@@ -1,10 +1,11 @@
--- What a call on a name decides from what the name has, from its arguments and, a set, from room: its tests in 01's order, and what it does and gives.
---   setTests, getTests, removeTests      01's tests from 3 on, with 01's numbers, in 01's order: of the arguments, of what the name has (setHeld ..),
---                                        and a set's of room (spaceTests)
+-- What a call on a name decides from what the name has, from its arguments and, a set, from room: its tests in order, and what it does and gives.
+--   downgraded                           02, No. 4: a record that disowns its protection
+--   setTests, getTests, removeTests      01's tests from 3 on, as 02 changes them, with their numbers, in their order: of the arguments, of what the name
+--                                        has (setHeld ..), and a set's of room (spaceTests)
 --   setEffect, removeEffect              what a done call does to what the name has
 --   readCount, readOutput                what a get gives of a record
 --   setRequest .. removeRequest          the calls
--- `protected` says whether a record with given flags is to have a CMAC in the chip: flag 8, where there is a chip.
+-- `protected` says whether a record with given flags is to have a CMAC in the chip: flag 8, where there is a chip. Where there is none, no name has one.
 use mathlib.Core.Bool.{Bool, false, cond, not, _&&_, _||_}
 use mathlib.Core.List.{List, [], _∷_, _++_}
 use mathlib.Core.Option.{Option, none, some}
@@ -58,17 +59,6 @@ reading name early tests numbers output lent = record {
   puts = record { kv = false; rbp = false };
 }
 
--- "Then, where the card holds the name: 8; 7 if the old or the new flags say write once; 9. Where it doesn't: 7 if the new flags say write once and
--- the chip holds the name."
-unfoldable pub setHeld : ℕ → Binding → List Test
-setHeld flags b =
-    let r = recordOf (b .stored) in
-    (8 when onCard b && not (wellFormed r))
-    ∷ (7 when onCard b && (writeOnce (flagsOf r) || writeOnce flags))
-    ∷ (9 when onCard b && not (eqb flags (flagsOf r)))
-    ∷ (7 when not (onCard b) && (writeOnce flags && inChip b))
-    ∷ []
-
 -- "6 if not on the card; 8; 7 if write once"
 unfoldable pub removeHeld : Option (List ℕ) → List Test
 removeHeld stored =
@@ -90,6 +80,22 @@ unfoldable pub readOutput : List ℕ → Name → ℕ → List ℕ → List ℕ 
 readOutput key name offset output r = take (readCount offset output r) (drop offset (plaintext key name r)) ++ drop (readCount offset output r) output
 
 module _ (protected : ℕ → Bool) where
+  -- 02, No. 4: the flags ask for no replay protection, and the chip holds the name
+  abbrev pub downgraded : ℕ → Bool → Bool
+  downgraded flags held = not (protected flags) && held
+
+  -- "Then, where the card holds the name: 8; 7 if the old or the new flags say write once; 9. Where it doesn't: 7 if the new flags say write once and
+  -- the chip holds the name." 02, No. 4: "A set without flag 8 gives 12 when the chip holds the name, just before 10."
+  unfoldable pub setHeld : ℕ → Binding → List Test
+  setHeld flags b =
+      let r = recordOf (b .stored) in
+      (8 when onCard b && not (wellFormed r))
+      ∷ (7 when onCard b && (writeOnce (flagsOf r) || writeOnce flags))
+      ∷ (9 when onCard b && not (eqb flags (flagsOf r)))
+      ∷ (7 when not (onCard b) && (writeOnce flags && inChip b))
+      ∷ (12 when downgraded flags (inChip b))
+      ∷ []
+
   -- "Then 10: the name is absent and there is no free place, or the flags ask for replay protection, the chip lacks the name and has no free entry."
   abbrev pub spaceTests : ℕ → Binding → Room → List Test
   spaceTests flags b room =
@@ -111,7 +117,8 @@ module _ (protected : ℕ → Bool) where
       record { kv = write r; rbp = cond (protected flags) (write (tagOf r)) keep }
 
   -- "Not on the card: 12 if the chip has the name, else 6. Then 8; 11 where integrity is flagged; 12 where replay protection is flagged and the entry
-  -- is absent or differs; 14 if offset is more than the data size."
+  -- is absent or differs; 14 if offset is more than the data size." 02, No. 4: "12, where it stands in the order, also when the record lacks flag 8 and
+  -- the chip holds the name".
   unfoldable pub getHeld : List ℕ → Name → ℕ → Binding → List Test
   getHeld key name offset b =
       let r = recordOf (b .stored) in
@@ -120,6 +127,7 @@ module _ (protected : ℕ → Bool) where
       ∷ (8 when not (wellFormed r))
       ∷ (11 when requireIntegrity (flagsOf r) && not (macOk key name r))
       ∷ (12 when protected (flagsOf r) && not (tagMatches (b .tag) r))
+      ∷ (12 when downgraded (flagsOf r) (inChip b))
       ∷ (14 when not (leb offset (dataSizeOf r)))
       ∷ []
 

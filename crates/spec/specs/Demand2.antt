@@ -1,4 +1,4 @@
--- Demand 2, from every card and chip: each call answers 0 exactly under the conditions that 01 names, and what it then gives and leaves.
+-- Demand 2, from every card and chip: each call answers 0 exactly under the conditions that 01 and 02 name, and what it then gives and leaves.
 --   Exact                                     the one form: a condition for 0, and what it then is
 --   Readable, opened, Reads                   get and info
 --   Settable, recordMade, Changed, Placed     set: the conditions; what it makes; what an area holds then; where it stands
@@ -58,6 +58,8 @@ pub record Readable (kv rbp key name : List ℕ) (offset : ℕ) : Type 0 where
   pub authentic : requireIntegrity (flagsOf r) ≡ true → tagOf r ≡ cmac (derivedKey key authPrefix name) (name ++ (metadataOf r ++ storedDataOf r))
   -- where replay protection is flagged, the chip's entry is that CMAC
   pub fresh : requireReplayProtection (flagsOf r) ≡ true → lookup rbpFormat rbp name ≡ some (tagOf r)
+  -- 02, No. 4: "and, where the chip holds the name, the record has flag 8"
+  pub not-downgraded : (t : List ℕ) → lookup rbpFormat rbp name ≡ some t → requireReplayProtection (flagsOf r) ≡ true
   pub in-range : offset ≤ dataSizeOf r
 
 -- the plaintext of a record: its stored data, decrypted from the start under the name's key where flag 2 is set, cut to the data size
@@ -105,6 +107,8 @@ pub record Settable (kv rbp key name : List ℕ) (flags : ℕ) (iv value : List 
   pub value-sized : length value ≤ 480
   pub known : (r : List ℕ) → lookup kvFormat kv name ≡ some r → Replaceable flags r
   pub new : lookup kvFormat kv name ≡ none → writeOnce flags ≡ true → lookup rbpFormat rbp name ≡ none
+  -- 02, No. 4: a set without flag 8 asks that the chip does not hold the name
+  pub not-downgraded : (t : List ℕ) → lookup rbpFormat rbp name ≡ some t → requireReplayProtection flags ≡ true
   pub kv-room : lookup kvFormat kv name ≡ none → FreeSlot kvFormat kv
   pub rbp-room : requireReplayProtection flags ≡ true → lookup rbpFormat rbp name ≡ none → FreeSlot rbpFormat rbp
 
@@ -222,22 +226,26 @@ Refuses kv rbp lengths tests o = o .answer .status ≢ 0 → o .answer .status
     ++ ((2 when not (intact kvFormat kv)) ∷ (2 when not (intact rbpFormat rbp)) ∷ tests)))
 
 pub record Refusals (kv rbp key name : List ℕ) (flags offset start : ℕ) (iv value output prefix nameBuf : List ℕ) : Type 0 where
-  -- "where the card holds the name: 8; 7 if the old or the new flags say write once; 9"; then 10
+  -- "where the card holds the name: 8; 7 if the old or the new flags say write once; 9"; by 02, No. 4, 12 "just before 10"
   pub set-known : (r : List ℕ) → lookup kvFormat kv name ≡ some r
       → Refuses kv rbp ((1 when not (eqb (length key) 16)) ∷ (1 when not (eqb (length iv) 8)) ∷ []) (
       (3 when not (validName name)) ∷ (4 when not (validFlags flags)) ∷ (5 when not (leb (length value) 480)) ∷ (8 when not (wellFormed r))
-      ∷ (7 when writeOnce (flagsOf r) || writeOnce flags) ∷ (9 when not (eqb flags (flagsOf r))) ∷ (10 when true) ∷ []
+      ∷ (7 when writeOnce (flagsOf r) || writeOnce flags) ∷ (9 when not (eqb flags (flagsOf r)))
+      ∷ (12 when not (requireReplayProtection flags) && isSome (lookup rbpFormat rbp name)) ∷ (10 when true) ∷ []
       ) (storeSet kv rbp key name flags iv value)
-  -- "Where it doesn't: 7 if the new flags say write once and the chip holds the name"; then 10
+  -- "Where it doesn't: 7 if the new flags say write once and the chip holds the name"; then 12, and 10
   pub set-new : lookup kvFormat kv name ≡ none
       → Refuses kv rbp ((1 when not (eqb (length key) 16)) ∷ (1 when not (eqb (length iv) 8)) ∷ []) (
       (3 when not (validName name)) ∷ (4 when not (validFlags flags)) ∷ (5 when not (leb (length value) 480))
-      ∷ (7 when writeOnce flags && isSome (lookup rbpFormat rbp name)) ∷ (10 when true) ∷ []
+      ∷ (7 when writeOnce flags && isSome (lookup rbpFormat rbp name))
+      ∷ (12 when not (requireReplayProtection flags) && isSome (lookup rbpFormat rbp name)) ∷ (10 when true) ∷ []
       ) (storeSet kv rbp key name flags iv value)
-  -- "Then 8; 11 where integrity is flagged; 12 where replay protection is flagged and the entry is absent or differs; 14"
+  -- "Then 8; 11 where integrity is flagged; 12 where replay protection is flagged and the entry is absent or differs; 14"; by 02, No. 4, 12 "also when the
+  -- record lacks flag 8 and the chip holds the name"
   pub get-known : (r : List ℕ) → lookup kvFormat kv name ≡ some r → Refuses kv rbp ((1 when not (eqb (length key) 16)) ∷ []) (
       (3 when not (validName name)) ∷ (8 when not (wellFormed r)) ∷ (11 when requireIntegrity (flagsOf r) && not (macOk key name r))
-      ∷ (12 when requireReplayProtection (flagsOf r) && not (tagMatches (lookup rbpFormat rbp name) r)) ∷ (14 when true) ∷ []
+      ∷ (12 when requireReplayProtection (flagsOf r) && not (tagMatches (lookup rbpFormat rbp name) r))
+      ∷ (12 when not (requireReplayProtection (flagsOf r)) && isSome (lookup rbpFormat rbp name)) ∷ (14 when true) ∷ []
       ) (storeGet kv rbp key name offset output)
   -- "Not on the card: 12 if the chip has the name, else 6."
   pub get-absent : lookup kvFormat kv name ≡ none → Refuses kv rbp ((1 when not (eqb (length key) 16)) ∷ []) (

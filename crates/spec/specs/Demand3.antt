@@ -111,8 +111,8 @@ pub record ModelRemoves (m : Model) (name r : List ℕ) (b : Binding) : Type 0 w
 pub record ModelExact : Type 0 where
   -- "It starts with what the start's used places and used entries hold."
   pub starts : (kv rbp : List ℕ) (name : Name) → modelBinding (modelOf kv rbp) name ≡ bindingOf kv rbp name
-  -- "Each step makes the call's tests in the order given above. 2, 10, and 1 for card or chip don't occur": it answers as the call does on any undamaged
-  -- card and chip with room that have the same of the name
+  -- "Each step makes the call's tests in the order given above, as later requests change it. [..] 2, 10, and 1 for card or chip don't occur": it answers
+  -- as the call does on any undamaged card and chip with room that have the same of the name
   pub answers-as : (m : Model) (c : Call) (kv rbp : List ℕ) → Undamaged kv rbp → FreeSlot kvFormat kv → FreeSlot rbpFormat rbp
       → bindingOf kv rbp (callName c) ≡ modelBinding m (callName c) → reply m c ≡ storeStep (areas kv rbp) c .answer
   -- "A refusal leaves the book as it was", and gives 0 for every other number; no call touches another name

@@ -17,4 +17,5 @@ pub mod Demand3
 pub mod Shapes
 pub mod TagComparison
 pub mod Edges
+pub mod Downgrade
 pub mod Vocabulary

@@ -91,7 +91,7 @@ modelEdit m name effect = record { records = tableEdit (m .records) name (effect
 abbrev pub modelWorld : World Model
 modelWorld = record { lengths = λ m. []; damage = λ m. []; binding = modelBinding; room = λ m. record { kv = true; rbp = true }; edit = modelEdit }
 
--- "Each step makes the call's tests in the order given above."
+-- "Each step makes the call's tests in the order given above, as later requests change it."
 abbrev pub modelStep : Model → Call → Outcome Model Answer
 modelStep m c = run modelWorld m (requestOf c)
 

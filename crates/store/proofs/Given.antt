@@ -22,13 +22,14 @@ some-given false bytes = refl
 -- a set asks of the chip only whether it holds the name
 module _ (flags : ℕ) (b : Binding) (held tagHeld : Bool) (t : tagHeld ≡ isSome (b .tag)) where
   tag-only : (s : Option (List ℕ)) (o : Option (List ℕ))
-      → setHeld flags (record { stored = s; tag = given (isSome o) [] }) ≡ setHeld flags (record { stored = s; tag = o })
+      → setHeld requireReplayProtection flags (record { stored = s; tag = given (isSome o) [] })
+      ≡ setHeld requireReplayProtection flags (record { stored = s; tag = o })
   unfolding setHeld
   tag-only s none = refl
   tag-only s (some x) = refl
 
   pub set-held : (stored : List ℕ) → held ≡ isSome (b .stored) → stored ≡ recordOf (b .stored)
-      → firstOf (setHeld flags (bindingGiven held stored tagHeld [])) ≡ firstOf (setHeld flags b)
+      → firstOf (setHeld requireReplayProtection flags (bindingGiven held stored tagHeld [])) ≡ firstOf (setHeld requireReplayProtection flags b)
   set-held stored h s = rw (given-is (b .stored) held stored h s, t) (ap firstOf (tag-only (b .stored) (b .tag)))
 
   -- and room asks as little of the card

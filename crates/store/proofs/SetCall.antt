@@ -31,7 +31,7 @@ module _ (kv rbp key name : List ℕ) (flags : ℕ) (iv value : List ℕ) where
   b = bindingOf kv rbp name
 
   abbrev pub setRest : List Test
-  setRest = setHeld flags b ++ spaceTests requireReplayProtection flags b (roomOf kv rbp)
+  setRest = setHeld requireReplayProtection flags b ++ spaceTests requireReplayProtection flags b (roomOf kv rbp)
 
   abbrev request : Request
   request = setRequest requireReplayProtection key name flags iv value

@@ -3,7 +3,8 @@
 --   early, setEarly .. iteratorEarly the tests that a call makes before it looks the name up; a set's own arguments (setArguments)
 --   finalizeEarly                    those of a finalize
 --   given, bindingGiven              what a name has, as the code hands it on: held or not, and the bytes
---   authentic, fresh                 the tests for 11 and for 12 pass
+--   authentic, fresh                 the tests for 11, and for 12 of a record with flag 8, pass
+--   downgradeTests                   the test for 12 of a record without it
 --   judged                           a call's status, and the slots that the name has, once the tests before them have passed
 --   recordWritten, recordErased      card and chip, with the slots that were found written and cleared
 use mathlib.Core.Bool.{Bool, false, cond, not, _&&_}
@@ -17,7 +18,7 @@ use Rattle.spec.specs.Name.{Name, validName, validPrefix}
 use Rattle.spec.specs.Record.{requireIntegrity, requireReplayProtection, validFlags, maxDataSize, flagsOf, tagOf, macOk, sealRecord}
 use Rattle.spec.specs.Area.{kvFormat, rbpFormat}
 use Rattle.spec.specs.Request.{Binding}
-use Rattle.spec.specs.Decisions.{keySized, ivSized, tagMatches}
+use Rattle.spec.specs.Decisions.{keySized, ivSized, tagMatches, downgraded}
 use Rattle.spec.specs.Calls.{Areas, areas, areaLengths, areaDamage}
 use Rattle.spec.specs.Incremental.{finalizeTests}
 use Rattle.spec.specs.declared.incremental.IncSetHandle.{IncSetHandle}
@@ -66,6 +67,10 @@ authentic key name r = not (requireIntegrity (flagsOf r) && not (macOk key name 
 
 abbrev pub fresh : Option (List ℕ) → List ℕ → Bool
 fresh tag r = not (requireReplayProtection (flagsOf r) && not (tagMatches tag r))
+
+-- 02, No. 4: of a stored record, and of what a set is to store
+abbrev pub downgradeTests : ℕ → Bool → List Test
+downgradeTests flags tagHeld = (12 when downgraded requireReplayProtection flags tagHeld) ∷ []
 
 -- ---- what is decided
 

@@ -63,7 +63,7 @@ fn is_fresh(tag_held: bool, tag: &[u8], stored: &[u8]) -> bool
     mac::copy_difference(tag, stored) == 0
 }
 
-// 12 where the chip has a name that the card lacks, else 6; then 8, 11, 12, 14.
+// 12 where the chip has a name that the card lacks, else 6; then 8, 11, 12 with replay protection and without, 14.
 pub fn held_status(
     device_key: [u8; 16],
     name: &[u8],
@@ -90,6 +90,10 @@ pub fn held_status(
     }
     if !is_fresh(tag_held, tag, stored) {
         return status::ERR_ROLLBACK;
+    }
+    let downgrade = judge::downgrade_status(record::record_flags(stored), tag_held);
+    if downgrade != status::OK {
+        return downgrade;
     }
     if (record::record_data_size(stored) as usize) < offset {
         return status::ERR_OFFSET;

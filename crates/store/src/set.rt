@@ -58,9 +58,9 @@ pub fn early_status(
     argument_status(name, flags, data)
 }
 
-// 8, 7, 9 where the card holds the name; 7 where it does not.
+// 8, 7, 9 where the card holds the name; 7 where it does not; then 12.
 pub fn held_status(flags: u32, held: bool, stored: &[u8], tag_held: bool) -> u32
-    ensures { λ r. ⌜ r ≡ firstOf (setHeld flags (bindingGiven held (now (stored .entry)) «tag_held» [])) ⌝ }
+    ensures { λ r. ⌜ r ≡ firstOf (setHeld requireReplayProtection flags (bindingGiven held (now (stored .entry)) «tag_held» [])) ⌝ }
 {
     if held {
         if !record::record_valid(stored) {
@@ -76,12 +76,12 @@ pub fn held_status(flags: u32, held: bool, stored: &[u8], tag_held: bool) -> u32
         if flags != old_flags {
             return status::ERR_FLAGS_MISMATCH;
         }
-        return status::OK;
+        return judge::downgrade_status(flags, tag_held);
     }
     if guard::both(flag::write_once(flags), tag_held) {
         return status::ERR_ALREADY_EXISTS;
     }
-    status::OK
+    judge::downgrade_status(flags, tag_held)
 }
 
 // 10, or done.
@@ -133,7 +133,7 @@ pub fn judge(
     iv: &[u8],
     data: &[u8],
 ) -> Judged
-    ensures { λ r. ⌜ r ≡ judged (now (kv .entry)) (now (rbp .entry)) (now (name .entry)) (setEarly (now (kv .entry)) (now (rbp .entry)) (now («device_key» .entry)) (now (name .entry)) flags (now (iv .entry)) (now («data» .entry))) (setHeld flags (bindingOf (now (kv .entry)) (now (rbp .entry)) (now (name .entry))) ++ spaceTests requireReplayProtection flags (bindingOf (now (kv .entry)) (now (rbp .entry)) (now (name .entry))) (roomOf (now (kv .entry)) (now (rbp .entry)))) ⌝ }
+    ensures { λ r. ⌜ r ≡ judged (now (kv .entry)) (now (rbp .entry)) (now (name .entry)) (setEarly (now (kv .entry)) (now (rbp .entry)) (now («device_key» .entry)) (now (name .entry)) flags (now (iv .entry)) (now («data» .entry))) (setHeld requireReplayProtection flags (bindingOf (now (kv .entry)) (now (rbp .entry)) (now (name .entry))) ++ spaceTests requireReplayProtection flags (bindingOf (now (kv .entry)) (now (rbp .entry)) (now (name .entry))) (roomOf (now (kv .entry)) (now (rbp .entry)))) ⌝ }
 {
     let early = early_status(kv, rbp, device_key, name, flags, iv, data);
     if early != status::OK {

@@ -105,7 +105,7 @@ returns-2 c =
     let room : free ≡ roomOf kv rbp = λ i. record { kv = has-space .ensures i; rbp = has-space2 .ensures i } in
     let tests : Room → List Test = spaceTests requireReplayProtection flags b in
     let space = space-status .ensures ∙ set-space flags b h t entry free known ∙ ap (λ (r : Room). firstOf (tests r)) room in
-    let status = c .first .ensures ∙ in-order (setHeld flags b) (tests (roomOf kv rbp)) (held-status .result) (space-status .result) refl held space in
+    let status = c .first .ensures ∙ in-order (setHeld requireReplayProtection flags b) (tests (roomOf kv rbp)) (held-status .result) (space-status .result) refl held space in
     judged-here kv rbp n first rest refl (sym (early-status .ensures) ∙ if1 .left) (c .first .result)
     (find .result) (find2 .result) status (find .ensures) (find2 .ensures)
 
