@@ -31,6 +31,9 @@ pub enum Why {
     GoneFromCard,
     EntryAbsent,
     EntryDiffers,
+    /// No flag 8, though the chip holds the name (02, No. 4): in a record that is read,
+    /// or in the flags of a set.
+    Downgraded,
     MaterialTooLong,
     NotAKeyFile,
     OffsetBeyondData,
@@ -58,7 +61,7 @@ impl Why {
             FlagsDiffer => 9,
             NoPlace | NoEntry => 10,
             CmacWrong => 11,
-            GoneFromCard | EntryAbsent | EntryDiffers => 12,
+            GoneFromCard | EntryAbsent | EntryDiffers | Downgraded => 12,
             MaterialTooLong | NotAKeyFile => 13,
             OffsetBeyondData => 14,
             HandleNameLength | HandleDeclared | HandleCount | ChunkPastDeclared | DataMissing => 19,

@@ -17,6 +17,29 @@ pub struct Contents {
     pub cmac: Option<[u8; 16]>,
 }
 
+impl Contents {
+    /// The tests of a set with these flags.
+    fn may_become(&self, flags: Flags) -> Result<(), Why> {
+        match &self.record {
+            Some(bytes) => {
+                let old = Record::decode(bytes).ok_or(Why::NotWellFormed)?;
+                if old.flags.write_once() || flags.write_once() {
+                    return Err(Why::OldWriteOnce);
+                }
+                if old.flags != flags {
+                    return Err(Why::FlagsDiffer);
+                }
+            }
+            None if flags.write_once() && self.cmac.is_some() => return Err(Why::WriteOnceOnChip),
+            None => {}
+        }
+        if !flags.replay_protection() && self.cmac.is_some() {
+            return Err(Why::Downgraded);
+        }
+        Ok(())
+    }
+}
+
 /// The number, the returned numbers, and all final bytes of a get's output.
 #[derive(Clone, Debug, PartialEq, Eq)]
 pub struct Answer {
@@ -110,20 +133,7 @@ impl Book {
         if data.len() > DATA_MAX {
             return Err(Why::DataTooLong);
         }
-        let old = self.contents(name);
-        match old.record {
-            Some(bytes) => {
-                let old = Record::decode(&bytes).ok_or(Why::NotWellFormed)?;
-                if old.flags.write_once() || flags.write_once() {
-                    return Err(Why::OldWriteOnce);
-                }
-                if old.flags != flags {
-                    return Err(Why::FlagsDiffer);
-                }
-            }
-            None if flags.write_once() && old.cmac.is_some() => return Err(Why::WriteOnceOnChip),
-            None => {}
-        }
+        self.contents(name).may_become(flags)?;
         let record = Record::seal(&key, name, flags, &iv, data);
         let line = self.line(name);
         line.record = Some(record.encode());
@@ -162,8 +172,12 @@ impl Book {
         if !record.authentic(&key, name) {
             return Err(Why::CmacWrong);
         }
-        if record.flags.replay_protection() && contents.cmac != Some(record.cmac) {
+        let protected = record.flags.replay_protection();
+        if protected && contents.cmac != Some(record.cmac) {
             return Err(Why::EntryDiffers);
+        }
+        if !protected && contents.cmac.is_some() {
+            return Err(Why::Downgraded);
         }
         let data = record.data(&key, name);
         Ok((record, data))

@@ -143,6 +143,30 @@ impl Call {
         }
     }
 
+    /// The name that the call reads, sets or removes; none for a bad identifier.
+    pub fn name(&self) -> Option<Vec<u8>> {
+        match self {
+            Call::Set { name, .. }
+            | Call::Get { name, .. }
+            | Call::Info { name, .. }
+            | Call::Remove { name } => Some(name.clone()),
+            Call::KeepKey { identifier, .. } | Call::LoadKey { identifier, .. } => {
+                key_name(*identifier)
+            }
+            Call::SetFinalize { handle, .. } => Some(Handle::decode(handle).name().to_vec()),
+            _ => None,
+        }
+    }
+
+    /// The flags that the call sets its name with.
+    pub fn flags(&self) -> Option<u32> {
+        match self {
+            Call::Set { flags, .. } | Call::KeepKey { flags, .. } => Some(*flags),
+            Call::SetFinalize { handle, .. } => Some(Handle::decode(handle).flags),
+            _ => None,
+        }
+    }
+
     /// The long arguments that a shortened story may do with less of.
     pub fn long_arguments(&mut self) -> Vec<&mut Vec<u8>> {
         match self {
@@ -303,15 +327,7 @@ fn set(
     check(data.len() <= DATA_MAX, Why::DataTooLong)?;
 
     let (place, entry) = (card.find(name), chip.find(name));
-    match place {
-        Some(place) => {
-            let old = Record::decode(&place.record).ok_or(Why::NotWellFormed)?;
-            check(!old.flags.write_once(), Why::OldWriteOnce)?;
-            check(!flags.write_once(), Why::NewWriteOnce)?;
-            check(old.flags == flags, Why::FlagsDiffer)?;
-        }
-        None => check(!flags.write_once() || entry.is_none(), Why::WriteOnceOnChip)?,
-    }
+    may_follow(place, entry, flags)?;
     check(place.is_some() || card.has_free(), Why::NoPlace)?;
     check(
         !flags.replay_protection() || entry.is_some() || chip.has_free(),
@@ -336,6 +352,21 @@ fn set(
     })
 }
 
+/// Whether a set with these flags may follow what card and chip have under its name.
+fn may_follow(place: Option<&Place>, entry: Option<&Entry>, flags: Flags) -> Result<(), Why> {
+    match place {
+        Some(place) => {
+            let old = Record::decode(&place.record).ok_or(Why::NotWellFormed)?;
+            check(!old.flags.write_once(), Why::OldWriteOnce)?;
+            check(!flags.write_once(), Why::NewWriteOnce)?;
+            check(old.flags == flags, Why::FlagsDiffer)?;
+        }
+        None => check(!flags.write_once() || entry.is_none(), Why::WriteOnceOnChip)?,
+    }
+    let protected = flags.replay_protection();
+    check(protected || entry.is_none(), Why::Downgraded)
+}
+
 /// The record that a get may read: all its tests but the offset's.
 fn readable(card: &Card, chip: &Chip, key: &Block, name: &[u8]) -> Result<Record, Why> {
     let entry = chip.find(name);
@@ -350,9 +381,10 @@ fn readable(card: &Card, chip: &Chip, key: &Block, name: &[u8]) -> Result<Record
     };
     let record = Record::decode(&place.record).ok_or(Why::NotWellFormed)?;
     check(record.authentic(key, name), Why::CmacWrong)?;
-    if record.flags.replay_protection() {
-        let entry = entry.ok_or(Why::EntryAbsent)?;
-        check(entry.cmac == record.cmac, Why::EntryDiffers)?;
+    match (record.flags.replay_protection(), entry) {
+        (true, None) => return Err(Why::EntryAbsent),
+        (true, Some(entry)) => check(entry.cmac == record.cmac, Why::EntryDiffers)?,
+        (false, entry) => check(entry.is_none(), Why::Downgraded)?,
     }
     Ok(record)
 }

@@ -1,13 +1,14 @@
 //! What a story is about: its names and keys, and contents that suit them or
 //! are wrong in one way.
 
+use crate::aes::Block;
 use crate::area::{Card, Chip, Entry, Place, NAME_MAX};
 use crate::handle::{Handle, STAGING};
 use crate::keyfile::{key_name, Attributes, KeyFile};
 use crate::record::{Flags, Record, DATA_MAX, RECORD_MAX};
 use crate::rng::Rng;
 
-const GOOD_FLAGS: [u32; 12] = [0, 1, 2, 3, 4, 5, 6, 7, 12, 13, 14, 15];
+pub const GOOD_FLAGS: [u32; 12] = [0, 1, 2, 3, 4, 5, 6, 7, 12, 13, 14, 15];
 /// Flags of a start: write once seldom, since it freezes a name.
 const USUAL_FLAGS: [u32; 14] = [0, 0, 2, 2, 4, 6, 6, 12, 12, 12, 14, 14, 5, 15];
 pub const BAD_BYTES: [u8; 5] = [0, 0x0a, 0x14, 0x1f, 0x7f];
@@ -123,16 +124,22 @@ pub fn key_file(rng: &mut Rng, sound: bool) -> Vec<u8> {
     file
 }
 
-/// A record for this name: mostly as a set makes it, else out of form.
-fn record(rng: &mut Rng, cast: &Cast, name: &[u8]) -> Vec<u8> {
-    let flags = Flags::accept(rng.pick(&USUAL_FLAGS)).expect("good flags");
+/// A record for this name, as a set makes it.
+pub fn sealed(rng: &mut Rng, cast: &Cast, key: &Block, name: &[u8], flags: u32) -> Record {
+    let flags = Flags::accept(flags).expect("good flags");
     let content = if key_like(cast, name) && rng.percent(80) {
         let sound = rng.percent(70);
         key_file(rng, sound)
     } else {
         data(rng)
     };
-    let bytes = Record::seal(&cast.key, name, flags, &rng.array(), &content).encode();
+    Record::seal(key, name, flags, &rng.array(), &content)
+}
+
+/// Mostly as a set makes it, else out of form.
+fn record(rng: &mut Rng, cast: &Cast, name: &[u8]) -> Vec<u8> {
+    let flags = rng.pick(&USUAL_FLAGS);
+    let bytes = sealed(rng, cast, &cast.key, name, flags).encode();
     if rng.percent(15) {
         out_of_form(rng, bytes)
     } else {
@@ -277,10 +284,11 @@ pub fn sound_start(rng: &mut Rng, cast: &Cast, places: usize, entries: usize) ->
         let stored = card
             .find(name)
             .and_then(|place| Record::decode(&place.record));
-        let own = stored.filter(|record| record.flags.replay_protection());
-        let (chance, cmac) = match own {
-            Some(record) => (85, record.cmac),
-            None => (20, rng.array()),
+        let (chance, cmac) = match stored {
+            Some(record) if record.flags.replay_protection() => (85, record.cmac),
+            // Downgraded, though the chip has the very CMAC that the record has.
+            Some(record) if rng.percent(50) => (20, record.cmac),
+            _ => (20, rng.array()),
         };
         let at = rng.below(entries);
         if rng.percent(chance) && chip.slots[at].is_none() {

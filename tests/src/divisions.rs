@@ -20,7 +20,7 @@ use crate::tally::Tally;
 
 /// The numbers that a `set_finalize` has to have met: those of a set without 5,
 /// which only a broken handle could bring, and 19 where it was too early.
-pub const NUMBERS: [u32; 10] = [0, 1, 2, 3, 4, 7, 8, 9, 10, 19];
+pub const NUMBERS: [u32; 11] = [0, 1, 2, 3, 4, 7, 8, 9, 10, 12, 19];
 
 struct Division<'a> {
     rng: Rng,

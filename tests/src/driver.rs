@@ -4,12 +4,15 @@ use std::path::PathBuf;
 use std::thread;
 
 use reference::calls::Call;
+use reference::cards::World;
 use reference::ciphers::{self, Checked};
 use reference::library::Library;
 use reference::rng::Rng;
 use reference::stories;
 use reference::tally::Tally;
-use reference::{divisions, edges, generator, handles, lists, names, orders, parsing, tags};
+use reference::{
+    cards, divisions, downgrades, edges, generator, handles, lists, names, orders, parsing, tags,
+};
 
 use crate::{long, openssl};
 
@@ -22,6 +25,7 @@ pub struct Options {
     pub stories: u64,
     pub lists: u64,
     pub divisions: u64,
+    pub cards: u64,
     /// Where the files of edges are.
     pub edges: PathBuf,
 }
@@ -34,6 +38,12 @@ pub struct Score {
 }
 
 impl Score {
+    fn check_all(&mut self, checks: Vec<(String, Checked)>) {
+        for (name, checked) in checks {
+            self.check(&name, checked);
+        }
+    }
+
     fn check(&mut self, name: &str, checked: Checked) {
         match checked {
             Ok(note) => {
@@ -51,40 +61,28 @@ impl Score {
 pub fn run(library: &dyn Library, options: &Options) -> Score {
     let mut score = Score::default();
     println!(
-        "seed {} stories {} lists {} divisions {}",
-        options.seed, options.stories, options.lists, options.divisions
+        "seed {} stories {} lists {} divisions {} cards {}",
+        options.seed, options.stories, options.lists, options.divisions, options.cards
     );
-    for (name, checked) in ciphers::checks(library, options.seed) {
-        score.check(&name, checked);
-    }
+    score.check_all(ciphers::checks(library, options.seed));
     if openssl::installed() {
-        for (name, checked) in openssl::checks(library, options.seed) {
-            score.check(&name, checked);
-        }
+        score.check_all(openssl::checks(library, options.seed));
     } else {
         println!("skipped openssl: the command is not installed");
     }
     let rng = Rng::part(options.seed, 6 << 40);
     score.check("random-key-files", parsing::random_key_files(library, rng));
-    for (name, checked) in edges::checks(library, &options.edges) {
-        score.check(&name, checked);
-    }
-    for (name, checked) in names::checks(library) {
-        score.check(&name, checked);
-    }
-    for (name, checked) in orders::checks(library) {
-        score.check(&name, checked);
-    }
-    for (name, checked) in handles::checks(library) {
-        score.check(&name, checked);
-    }
-    for (name, checked) in tags::checks(library, options.seed) {
-        score.check(&name, checked);
-    }
+    score.check_all(edges::checks(library, &options.edges));
+    score.check_all(names::checks(library));
+    score.check_all(orders::checks(library));
+    score.check_all(handles::checks(library));
+    score.check_all(tags::checks(library, options.seed));
+    score.check_all(downgrades::checks(library, options.seed));
     match long::check() {
         Some(checked) => score.check("lengths-past-32-bits", checked),
         None => println!("skipped lengths-past-32-bits: no room for them"),
     }
+    run_cards(library, options, &mut score);
     run_divisions(library, options, &mut score);
     run_stories(library, options, &mut score);
     run_lists(library, options, &mut score);
@@ -128,6 +126,24 @@ fn verdict(mismatches: &[String], passed: String) -> Checked {
     }
     let told: String = mismatches.iter().take(TOLD).cloned().collect();
     Err(format!("{} mismatches\n{told}", mismatches.len()))
+}
+
+fn run_cards(library: &dyn Library, options: &Options, score: &mut Score) {
+    let seed = options.seed;
+    let world = match World::new(library, Rng::part(seed ^ 10 << 40, 0)) {
+        Ok(world) => world,
+        Err(why) => return score.check("old-cards", Err(why)),
+    };
+    let (tally, mismatches) = in_parts(options.cards, &|index, tally| {
+        let rng = Rng::part(seed ^ 11 << 40, index);
+        let told = world.check(rng, library, tally)?;
+        Some(format!("  card {index} of seed {seed}:\n    {told}\n"))
+    });
+    let summary = cards::summary(&tally, world.names());
+    let passed = format!("{} cards, {summary}", options.cards);
+    score.check("old-cards", verdict(&mismatches, passed));
+    println!("answers on the cards:\n{}", tally.table(&cards::KINDS));
+    score.check("old-cards-coverage", coverage(&cards::gaps(&tally)));
 }
 
 fn run_divisions(library: &dyn Library, options: &Options, score: &mut Score) {
@@ -183,6 +199,11 @@ fn run_stories(library: &dyn Library, options: &Options, score: &mut Score) {
         Err(gaps.join("; "))
     };
     score.check("stories-coverage", checked);
+    println!(
+        "calls under names that the chip holds, by the flags on the card:\n{}",
+        tally.met_table()
+    );
+    score.check("stories-downgrades", coverage(&tally.met_gaps()));
 }
 
 fn run_lists(library: &dyn Library, options: &Options, score: &mut Score) {

@@ -248,6 +248,13 @@ impl Teller {
         if self.rng.percent(chance) {
             return cast::wild_flags(&mut self.rng);
         }
+        // Which flags may follow is asked most where the chip holds the name.
+        let held = self
+            .areas()
+            .map_or(false, |(_, chip)| chip.find(name).is_some());
+        if held && self.rng.percent(30) {
+            return self.rng.pick(&cast::GOOD_FLAGS);
+        }
         let old = self.record_of(name).map(|record| record.flags.bits());
         cast::flags(&mut self.rng, old)
     }

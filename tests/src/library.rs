@@ -65,10 +65,10 @@ impl Library for Reference {
 
 /// The reference with a fault in its calls, for tests of what finds one.
 #[cfg(test)]
-pub struct Faulty(pub fn(&Call, &mut Observed));
+pub struct Faulty<F: Fn(&Call, &mut Observed) + Sync>(pub F);
 
 #[cfg(test)]
-impl Library for Faulty {
+impl<F: Fn(&Call, &mut Observed) + Sync> Library for Faulty<F> {
     fn call(&self, card: &[u8], chip: &[u8], call: &Call) -> Observed {
         let mut observed = Reference.call(card, chip, call);
         (self.0)(call, &mut observed);

@@ -35,14 +35,7 @@ pub struct Merge {
 pub const KINDS: [usize; 5] = [0, 1, 2, 3, Call::SET_FINALIZE];
 
 fn name_of(call: &Call) -> Vec<u8> {
-    match call {
-        Call::Set { name, .. }
-        | Call::Get { name, .. }
-        | Call::Info { name, .. }
-        | Call::Remove { name } => name.clone(),
-        Call::SetFinalize { handle, .. } => Handle::decode(handle).name().to_vec(),
-        _ => panic!("no call of demand 3"),
-    }
+    call.name().expect("a call of demand 3")
 }
 
 /// Whether the call sets its name, accepted or refused.
@@ -325,11 +318,11 @@ pub fn report(merge: &Merge, library: &dyn Library) -> String {
 /// The numbers that the book can answer each call of demand 3 with.
 fn numbers(kind: &str) -> &'static [u32] {
     match kind {
-        "set" => &[0, 1, 3, 4, 5, 7, 8, 9],
+        "set" => &[0, 1, 3, 4, 5, 7, 8, 9, 12],
         "get" => &[0, 1, 3, 6, 8, 11, 12, 14],
         "info" => &[0, 1, 3, 6, 8, 11, 12],
         "remove" => &[0, 3, 6, 7, 8],
-        "set_finalize" => &[0, 1, 3, 4, 7, 8, 9, 19],
+        "set_finalize" => &[0, 1, 3, 4, 7, 8, 9, 12, 19],
         _ => &[],
     }
 }

@@ -19,6 +19,7 @@ fn options(mut arguments: impl Iterator<Item = String>) -> Result<Option<Options
         stories: 40_000,
         lists: 20_000,
         divisions: 4_000,
+        cards: 100_000,
         edges: edges::FOLDER.into(),
     };
     while let Some(name) = arguments.next() {
@@ -30,6 +31,7 @@ fn options(mut arguments: impl Iterator<Item = String>) -> Result<Option<Options
             "--stories" => options.stories = number(value()?)?,
             "--lists" => options.lists = number(value()?)?,
             "--divisions" => options.divisions = number(value()?)?,
+            "--cards" => options.cards = number(value()?)?,
             "--edges" => options.edges = value()?.into(),
             _ => return Err(format!("{name} is unknown")),
         }

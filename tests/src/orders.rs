@@ -36,8 +36,8 @@ struct Scene {
 /// A number of 01 and what makes its test fail, without making good another's.
 type Fault = (u32, fn(&mut Scene));
 
-fn seal(name: &[u8], data: &[u8]) -> (Place, Entry) {
-    let flags = Flags::accept(FLAGS).expect("good flags");
+fn seal(flags: u32, name: &[u8], data: &[u8]) -> (Place, Entry) {
+    let flags = Flags::accept(flags).expect("good flags");
     let record = Record::seal(&KEY, name, flags, &IV, data);
     let place = Place {
         name: name.to_vec(),
@@ -53,8 +53,8 @@ fn seal(name: &[u8], data: &[u8]) -> (Place, Entry) {
 /// Three places and three entries: the known name, a free one, another name.
 fn scene(call: Call) -> Scene {
     let file = KeyFile::new(ATTRIBUTES, b"key").expect("short material");
-    let (known, entry) = seal(NAME, &file.encode());
-    let (other, other_entry) = seal(b"other", b"data");
+    let (known, entry) = seal(FLAGS, NAME, &file.encode());
+    let (other, other_entry) = seal(FLAGS, b"other", b"data");
     let card = Card {
         slots: vec![Some(known), None, Some(other)],
     };
@@ -151,7 +151,7 @@ const WRITE_ONCE_ON_CHIP: Fault = (7, |scene| {
 });
 const NO_PLACE: Fault = (10, |scene| {
     let mut card = Card::decode(&scene.card).expect("sound so far");
-    card.put(seal(b"third", b"").0);
+    card.put(seal(FLAGS, b"third", b"").0);
     scene.card = card.encode();
 });
 const NO_ENTRY: Fault = (10, |scene| put_entry(scene, b"third".to_vec()));
@@ -164,6 +164,18 @@ const ENTRY_LOST: Fault = (10, |scene| {
 const CMAC_WRONG: Fault = (11, |scene| scene.card[68 + 20] ^= 1);
 const ENTRY_DIFFERS: Fault = (12, |scene| scene.chip[ENTRY - 1] ^= 1);
 const ENTRY_ABSENT: Fault = (12, |scene| scene.chip[..ENTRY].fill(0));
+/// The record is one without flag 8, as authentic as before, and the chip keeps its entry.
+const DOWNGRADED: Fault = (12, disown::<6>);
+/// And one without integrity, which has no CMAC to be wrong.
+const PLANTED: Fault = (12, disown::<0>);
+const DOWNGRADED_BY_SET: Fault = (12, |scene| {
+    disown::<6>(scene);
+    change_flags(&mut scene.call, |_| 6);
+});
+const DOWNGRADED_BY_NEW: Fault = (12, |scene| {
+    change_flags(&mut scene.call, |_| 6);
+    put_entry(scene, new_name(&scene.call));
+});
 const GONE_FROM_CARD: Fault = (12, |scene| scene.card[..PLACE].fill(0));
 const NOT_FOUND: Fault = (6, |scene| {
     scene.card[..PLACE].fill(0);
@@ -181,7 +193,7 @@ const OFFSET_BEYOND: Fault = (14, |scene| {
     }
 });
 const NOT_A_KEY_FILE: Fault = (13, |scene| {
-    let (place, entry) = seal(NAME, b"no key file");
+    let (place, entry) = seal(FLAGS, NAME, b"no key file");
     let mut card = Card::decode(&scene.card).expect("sound so far");
     let mut chip = Chip::decode(&scene.chip).expect("sound so far");
     card.put(place);
@@ -192,6 +204,15 @@ const MATERIAL_TOO_LONG: Fault = (13, |scene| match &mut scene.call {
     Call::WriteKeyFile { material, .. } | Call::KeepKey { material, .. } => material.resize(445, 1),
     _ => unreachable!("no material"),
 });
+
+/// Seals the known name's record anew, with these flags.
+fn disown<const BITS: u32>(scene: &mut Scene) {
+    let mut card = Card::decode(&scene.card).expect("sound so far");
+    let known = card.find(NAME).expect("the known name");
+    let known = Record::decode(&known.record).expect("sound so far");
+    card.put(seal(BITS, NAME, &known.data(&KEY, NAME)).0);
+    scene.card = card.encode();
+}
 
 fn change_flags(call: &mut Call, change: fn(u32) -> u32) {
     match call {
@@ -390,6 +411,17 @@ const STORED: &[Fault] = &[
 const FULL: &[Fault] = &[NO_PLACE, NO_ENTRY];
 const ON_CHIP: &[Fault] = &[WRITE_ONCE_ON_CHIP, NO_PLACE];
 const READ: &[Fault] = &[REVISION, CMAC_WRONG, ENTRY_DIFFERS];
+/// The same for what lacks flag 8 though the chip holds the name.
+const DOWNGRADE: &[Fault] = &[
+    REVISION,
+    OLD_WRITE_ONCE,
+    NEW_WRITE_ONCE,
+    FLAGS_DIFFER,
+    DOWNGRADED_BY_SET,
+];
+const DOWNGRADE_ON_CHIP: &[Fault] = &[WRITE_ONCE_ON_CHIP, DOWNGRADED_BY_NEW, NO_PLACE];
+const READ_DOWNGRADED: &[Fault] = &[REVISION, CMAC_WRONG, DOWNGRADED];
+const READ_PLANTED: &[Fault] = &[REVISION, PLANTED];
 
 type Order = (&'static str, Call, Vec<Fault>);
 
@@ -402,13 +434,19 @@ fn set_orders() -> Vec<Order> {
     let sets = line(&[&[IV_LENGTH, KEY_LENGTH], AREAS, &[BAD_FLAGS]]);
     let set_tests = line(&[&sets, &[DATA_TOO_LONG]]);
     let keep_tests = line(&[&[MATERIAL_TOO_LONG], &sets]);
+    let set_order = |name, of: &[u8], faults| (name, set(of), line(&[&set_tests, faults]));
+    let keep_order = |name, of, faults| (name, keep(of), line(&[&keep_tests, faults]));
     vec![
-        ("set-known", set(NAME), line(&[&set_tests, STORED])),
-        ("set-new", set(b"new"), line(&[&set_tests, FULL])),
-        ("set-on-chip", set(b"new"), line(&[&set_tests, ON_CHIP])),
-        ("keep-known", keep(IDENTIFIER), line(&[&keep_tests, STORED])),
-        ("keep-new", keep(1), line(&[&keep_tests, FULL])),
-        ("keep-on-chip", keep(1), line(&[&keep_tests, ON_CHIP])),
+        set_order("set-known", NAME, STORED),
+        set_order("set-new", b"new", FULL),
+        set_order("set-on-chip", b"new", ON_CHIP),
+        set_order("set-downgrade", NAME, DOWNGRADE),
+        set_order("set-downgrade-on-chip", b"new", DOWNGRADE_ON_CHIP),
+        keep_order("keep-known", IDENTIFIER, STORED),
+        keep_order("keep-new", 1, FULL),
+        keep_order("keep-on-chip", 1, ON_CHIP),
+        keep_order("keep-downgrade", IDENTIFIER, DOWNGRADE),
+        keep_order("keep-downgrade-on-chip", 1, DOWNGRADE_ON_CHIP),
     ]
 }
 
@@ -416,22 +454,30 @@ fn get_orders() -> Vec<Order> {
     let keyed = line(&[&[KEY_LENGTH], AREAS]);
     let order = |faults: &[Fault]| line(&[&keyed, faults]);
     let reading = line(&[READ, &[OFFSET_BEYOND]]);
+    let downgraded = line(&[READ_DOWNGRADED, &[OFFSET_BEYOND]]);
+    let planted = line(&[READ_PLANTED, &[OFFSET_BEYOND]]);
     vec![
         ("get", get(), order(&reading)),
+        ("get-downgraded", get(), order(&downgraded)),
+        ("get-planted", get(), order(&planted)),
         ("get-unkept", get(), order(&[ENTRY_ABSENT, OFFSET_BEYOND])),
         ("get-gone", get(), order(&[GONE_FROM_CARD, OFFSET_BEYOND])),
         ("get-absent", get(), order(&[NOT_FOUND, OFFSET_BEYOND])),
         ("info", info(), order(READ)),
+        ("info-downgraded", info(), order(READ_DOWNGRADED)),
+        ("info-planted", info(), order(READ_PLANTED)),
         ("info-gone", info(), order(&[GONE_FROM_CARD])),
         ("info-absent", info(), order(&[NOT_FOUND])),
     ]
 }
 
 fn load_orders() -> Vec<Order> {
-    let order = |faults| line(&[&[BUFFER_LENGTH, KEY_LENGTH], AREAS, faults]);
-    let reading = line(&[READ, &[NOT_A_KEY_FILE]]);
+    let order = |faults: &[Fault]| line(&[&[BUFFER_LENGTH, KEY_LENGTH], AREAS, faults]);
+    let reading = |faults| order(&line(&[faults, &[NOT_A_KEY_FILE]]));
     vec![
-        ("load", load(), order(&reading)),
+        ("load", load(), reading(READ)),
+        ("load-downgraded", load(), reading(READ_DOWNGRADED)),
+        ("load-planted", load(), reading(READ_PLANTED)),
         ("load-gone", load(), order(&[GONE_FROM_CARD])),
         ("load-absent", load(), order(&[NOT_FOUND])),
     ]
@@ -470,32 +516,56 @@ fn handle_orders() -> Vec<Order> {
             vec![IV_LENGTH, NAME_TOO_LONG, DECLARED_TOO_LONG],
         ),
         ("set_add_data", set_add_data(), add),
-        ("set_finalize-known", known, finalize(missing, STORED)),
+        (
+            "set_finalize-known",
+            known.clone(),
+            finalize(missing, STORED),
+        ),
         ("set_finalize-new", new.clone(), finalize(&broken, FULL)),
-        ("set_finalize-on-chip", new, finalize(missing, ON_CHIP)),
+        (
+            "set_finalize-on-chip",
+            new.clone(),
+            finalize(missing, ON_CHIP),
+        ),
+        (
+            "set_finalize-downgrade",
+            known.clone(),
+            finalize(missing, DOWNGRADE),
+        ),
+        (
+            "set_finalize-downgrade-on-chip",
+            new,
+            finalize(missing, DOWNGRADE_ON_CHIP),
+        ),
     ]
 }
 
 fn orders() -> Vec<Order> {
     [
-        set_orders(),
         get_orders(),
         load_orders(),
         keyless_orders(),
+        set_orders(),
         handle_orders(),
     ]
     .concat()
 }
 
 pub fn checks(library: &dyn Library) -> Vec<(String, Checked)> {
-    orders()
-        .into_iter()
-        .map(|(name, call, faults)| {
-            let checked = order(library, &call, &faults);
-            let checked = checked.map(|sets| format!("{sets} sets of {} faults", faults.len()));
-            (format!("order-{name}"), checked)
-        })
-        .collect()
+    each(library, |_| true).collect()
+}
+
+/// Those whose names are asked for, one after the other.
+pub fn each(
+    library: &dyn Library,
+    asked: fn(&str) -> bool,
+) -> impl Iterator<Item = (String, Checked)> + '_ {
+    let orders = orders().into_iter().filter(move |(name, ..)| asked(name));
+    orders.map(|(name, call, faults)| {
+        let checked = order(library, &call, &faults);
+        let checked = checked.map(|sets| format!("{sets} sets of {} faults", faults.len()));
+        (format!("order-{name}"), checked)
+    })
 }
 
 #[cfg(test)]

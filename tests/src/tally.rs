@@ -3,7 +3,10 @@
 use std::collections::BTreeMap;
 
 use crate::answer::Why;
+use crate::area;
 use crate::calls::Call;
+use crate::cast::GOOD_FLAGS;
+use crate::record::Record;
 
 /// What the calls answer with: 01's numbers, and those of the requests so far.
 pub const NUMBERS: [u32; 16] = [0, 1, 2, 3, 4, 5, 6, 7, 8, 9, 10, 11, 12, 13, 14, 19];
@@ -15,6 +18,20 @@ pub struct Tally {
     tests: BTreeMap<(usize, Option<Why>), u64>,
     /// Answers with any other number.
     strange: u64,
+    met: BTreeMap<Met, u64>,
+}
+
+/// 02, No. 4: the flags that a call meets under a name that the chip holds.
+#[derive(Clone, Copy, PartialEq, Eq, PartialOrd, Ord)]
+struct Met {
+    /// Of the record that the card holds, if it holds one.
+    stored: Option<u32>,
+    /// Of the call; none where it reads.
+    set: Option<u32>,
+}
+
+fn none_or_flags() -> impl Iterator<Item = Option<u32>> {
+    std::iter::once(None).chain(GOOD_FLAGS.map(Some))
 }
 
 fn column(number: u32) -> Option<usize> {
@@ -40,6 +57,44 @@ impl Tally {
             *self.tests.entry(*test).or_default() += more;
         }
         self.strange += other.strange;
+        for (met, more) in &other.met {
+            *self.met.entry(*met).or_default() += more;
+        }
+    }
+
+    /// Counts a call that reads or sets a name that the chip holds, on sound areas and
+    /// over a record in form.
+    pub fn meet(&mut self, card: &[u8], chip: &[u8], call: &Call) {
+        if let Some(met) = Met::of(card, chip, call) {
+            *self.met.entry(met).or_default() += 1;
+        }
+    }
+
+    /// How often such names were read and set, by the flags on the card.
+    pub fn met_table(&self) -> String {
+        let mut text = format!("{:>12}{:>8}", "", "none");
+        for flags in GOOD_FLAGS {
+            text += &format!("{flags:>8}");
+        }
+        for (name, sets) in [("read", false), ("set", true)] {
+            text += &format!("\n{name:>12}");
+            for stored in none_or_flags() {
+                let met = self.met.iter();
+                let met = met.filter(|(met, _)| met.stored == stored && met.set.is_some() == sets);
+                text += &format!("{:>8}", met.map(|(_, count)| count).sum::<u64>());
+            }
+        }
+        text
+    }
+
+    /// What never came under such a name: a read, and a set with each flags, over no
+    /// record and over a record with each flags.
+    pub fn met_gaps(&self) -> Vec<String> {
+        let due =
+            none_or_flags().flat_map(|stored| none_or_flags().map(move |set| Met { stored, set }));
+        due.filter(|met| !self.met.contains_key(met))
+            .map(|met| format!("on the card {:?}, set {:?}", met.stored, met.set))
+            .collect()
     }
 
     pub fn calls(&self) -> u64 {
@@ -48,6 +103,11 @@ impl Tally {
 
     pub fn number(&self, kind: usize, number: u32) -> u64 {
         column(number).map_or(0, |column| self.numbers[kind][column])
+    }
+
+    /// How often this test refused the call; none stands for a done one.
+    pub fn times(&self, kind: usize, why: Option<Why>) -> u64 {
+        self.tests.get(&(kind, why)).copied().unwrap_or(0)
     }
 
     pub fn table(&self, kinds: &[usize]) -> String {
@@ -109,6 +169,25 @@ impl Tally {
     }
 }
 
+impl Met {
+    fn of(card: &[u8], chip: &[u8], call: &Call) -> Option<Met> {
+        let set = call.flags();
+        let reads = matches!(
+            call,
+            Call::Get { .. } | Call::Info { .. } | Call::LoadKey { .. }
+        );
+        let name = call.name().filter(|_| reads || set.is_some())?;
+        area::test_lengths(card, chip).ok()?;
+        let (card, chip) = area::decode(card, chip).ok()?;
+        chip.find(&name)?;
+        let stored = match card.find(&name) {
+            Some(place) => Some(Record::decode(&place.record)?.flags.bits()),
+            None => None,
+        };
+        Some(Met { stored, set })
+    }
+}
+
 /// The tests that can refuse a call of this kind, from 01's orders and 02.
 fn refusals(kind: &str) -> Vec<Why> {
     use Why::*;
@@ -121,6 +200,7 @@ fn refusals(kind: &str) -> Vec<Why> {
         NewWriteOnce,
         FlagsDiffer,
         WriteOnceOnChip,
+        Downgraded,
         NoPlace,
         NoEntry,
     ];
@@ -132,6 +212,7 @@ fn refusals(kind: &str) -> Vec<Why> {
         CmacWrong,
         EntryAbsent,
         EntryDiffers,
+        Downgraded,
     ];
     let handle = [StagingLength, HandleNameLength, HandleDeclared, HandleCount];
     let parts: Vec<&[Why]> = match kind {

@@ -1,10 +1,15 @@
 //! Someone with card and chip in hand: flips, swaps, moves, damage in each way of
 //! 01, and things from before put back.
 
-use crate::area::{Place, Slot, ENTRY, NAME_MAX, PLACE};
-use crate::cast::{out_of_form, Cast, BAD_BYTES};
+use std::ops::Range;
+
+use crate::area::{good_name, Entry, Place, Slot, ENTRY, NAME_MAX, PLACE};
+use crate::cast::{self, out_of_form, Cast, BAD_BYTES};
 use crate::record::RECORD_MAX;
 use crate::rng::Rng;
+
+/// Good flags without replay protection.
+const UNPROTECTED: [u32; 8] = [0, 1, 2, 3, 4, 5, 6, 7];
 
 pub struct Tamperer<'a> {
     pub rng: &'a mut Rng,
@@ -21,57 +26,167 @@ impl Tamperer<'_> {
         chip_before: &[u8],
     ) -> (&'static str, Vec<u8>, Vec<u8>) {
         let (mut card, mut chip) = (card_before.to_vec(), chip_before.to_vec());
-        let what = match self.rng.below(100) {
+        let what = match self.rng.below(114) {
+            0..=72 => self.tamper_card(&mut card, &chip),
+            73..=103 => self.tamper_chip(&mut chip),
+            _ => self.put_back(&mut card, &mut chip),
+        };
+        (what, card, chip)
+    }
+
+    fn tamper_card(&mut self, card: &mut Vec<u8>, chip: &[u8]) -> &'static str {
+        match self.rng.below(73) {
             0..=4 => {
-                flip(self.rng, &mut card);
+                flip(self.rng, card);
                 "a bit of the card flips"
             }
-            5..=8 => {
-                flip(self.rng, &mut chip);
-                "a bit of the chip flips"
-            }
-            9..=20 => self.flip_in_record(&mut card),
-            21..=25 => self.flip_in_entry(&mut chip),
-            26..=35 => self.misshape_place(&mut card),
-            36..=43 => self.misshape_entry(&mut chip),
-            44..=53 => self.change_field(&mut card),
-            54..=58 => {
-                self.empty(&mut card, PLACE);
+            5..=16 => self.flip_in_record(card),
+            17..=26 => self.misshape_place(card),
+            27..=36 => self.change_field(card),
+            37..=41 => {
+                self.empty(card, PLACE);
                 "a place is emptied"
             }
-            59..=63 => {
-                self.empty(&mut chip, ENTRY);
-                "an entry is emptied"
-            }
-            64..=66 => {
-                self.swap(&mut card, PLACE);
+            42..=44 => {
+                self.swap(card, PLACE);
                 "two places are swapped"
             }
-            67..=68 => {
-                self.swap(&mut chip, ENTRY);
-                "two entries are swapped"
-            }
-            69..=71 => {
-                self.copy(&mut card, PLACE);
+            45..=47 => {
+                self.copy(card, PLACE);
                 "a place is copied over another"
             }
-            72..=74 => {
-                self.copy(&mut chip, ENTRY);
-                "an entry is copied over another"
-            }
-            75..=78 => self.move_record(&mut card),
-            79..=81 => self.rename(&mut card),
-            82..=91 => self.put_back(&mut card, &mut chip),
-            92..=95 => {
-                resize(self.rng, &mut card, PLACE);
+            48..=51 => self.move_record(card),
+            52..=54 => self.rename(card),
+            55..=58 => {
+                resize(self.rng, card, PLACE);
                 "the card has another length"
             }
             _ => {
-                resize(self.rng, &mut chip, ENTRY);
+                self.plant(card, chip, &UNPROTECTED);
+                "a record without replay protection is planted"
+            }
+        }
+    }
+
+    fn tamper_chip(&mut self, chip: &mut Vec<u8>) -> &'static str {
+        match self.rng.below(31) {
+            0..=3 => {
+                flip(self.rng, chip);
+                "a bit of the chip flips"
+            }
+            4..=8 => self.flip_in_entry(chip),
+            9..=16 => self.misshape_entry(chip),
+            17..=21 => {
+                self.empty(chip, ENTRY);
+                "an entry is emptied"
+            }
+            22..=23 => {
+                self.swap(chip, ENTRY);
+                "two entries are swapped"
+            }
+            24..=26 => {
+                self.copy(chip, ENTRY);
+                "an entry is copied over another"
+            }
+            _ => {
+                resize(self.rng, chip, ENTRY);
                 "the chip has another length"
             }
-        };
-        (what, card, chip)
+        }
+    }
+
+    /// What someone can do who has the card and old copies of it, and not the chip.
+    pub fn forge(&mut self, card: &mut [u8], chip: &[u8]) {
+        match self.rng.below(100) {
+            0..=17 => self.plant(card, chip, &cast::GOOD_FLAGS),
+            18..=32 => self.plant(card, chip, &UNPROTECTED),
+            33..=37 => self.paste_cmac(card, chip),
+            38..=41 => self.swap_cmacs(card),
+            42..=57 => {
+                let field = self.field(card);
+                flip(self.rng, &mut card[field]);
+            }
+            58..=63 => {
+                let field = self.field(card);
+                let random = self.rng.bytes(field.len());
+                card[field].copy_from_slice(&random);
+            }
+            64..=68 => _ = self.change_field(card),
+            69..=72 => _ = self.move_record(card),
+            73..=77 => self.empty(card, PLACE),
+            78..=82 => self.swap(card, PLACE),
+            83 => self.copy(card, PLACE),
+            84..=85 => _ = self.rename(card),
+            86..=97 => self.old_place(card),
+            _ => _ = self.misshape_place(card),
+        }
+    }
+
+    /// A record of these flags, which no set has made, under a name that the chip
+    /// holds; under none where it holds none.
+    fn plant(&mut self, card: &mut [u8], chip: &[u8], flags: &[u32]) {
+        let at = self.used_slot(chip, ENTRY);
+        let entry = Entry::read(&chip[at..at + ENTRY]);
+        if let Some(Entry { name, .. }) = entry.filter(|entry| good_name(&entry.name)) {
+            let keys = [self.cast.key, self.cast.other_key];
+            let key = keys[usize::from(self.rng.percent(15))];
+            let flags = self.rng.pick(flags);
+            let record = cast::sealed(self.rng, self.cast, &key, &name, flags).encode();
+            let at = self.place_for(card, &name);
+            card[at..at + PLACE].copy_from_slice(&Place { name, record }.encode());
+        }
+    }
+
+    /// Where the name's own place starts, else a free one, else any.
+    fn place_for(&mut self, card: &[u8], name: &[u8]) -> usize {
+        let free = || card.chunks_exact(PLACE).position(|place| place[0] == 0);
+        let at = place_of(card, name).or_else(|| Some(free()? * PLACE));
+        at.unwrap_or_else(|| slot(self.rng, card, PLACE))
+    }
+
+    /// The CMAC that the chip has comes to stand in the record of its name.
+    fn paste_cmac(&mut self, card: &mut [u8], chip: &[u8]) {
+        let at = self.used_slot(chip, ENTRY);
+        let entry = Entry::read(&chip[at..at + ENTRY]);
+        let found = entry.and_then(|entry| Some((place_of(card, &entry.name)?, entry.cmac)));
+        if let Some((at, cmac)) = found {
+            let stored = cmac_at(card, at);
+            card[stored].copy_from_slice(&cmac);
+        }
+    }
+
+    fn swap_cmacs(&mut self, card: &mut [u8]) {
+        let (a, b) = (self.used_slot(card, PLACE), self.used_slot(card, PLACE));
+        let (a, b) = (cmac_at(card, a), cmac_at(card, b));
+        for (a, b) in a.zip(b) {
+            card.swap(a, b);
+        }
+    }
+
+    /// Where a field of a record stands: sizes, revision, flags, IV, data, CMAC.
+    fn field(&mut self, card: &[u8]) -> Range<usize> {
+        let at = self.used_slot(card, PLACE);
+        let cmac = cmac_at(card, at);
+        let ends = [0, 2, 4, 8, 12, 20].map(|end| at + 68 + end);
+        let fields = [
+            ends[0]..ends[1],
+            ends[1]..ends[2],
+            ends[2]..ends[3],
+            ends[3]..ends[4],
+            ends[3]..ends[3] + 1,
+            ends[4]..ends[5],
+            ends[5]..cmac.start.max(ends[5] + 1),
+            cmac.clone(),
+            cmac,
+        ];
+        self.rng.pick(&fields)
+    }
+
+    /// A place as some old card had it.
+    fn old_place(&mut self, card: &mut [u8]) {
+        let (old, _) = self.rng.pick(self.past);
+        let at = self.used_slot(&old, PLACE);
+        card[at..at + PLACE].copy_from_slice(&old[at..at + PLACE]);
     }
 
     fn flip_in_record(&mut self, card: &mut [u8]) -> &'static str {
@@ -162,7 +277,9 @@ impl Tamperer<'_> {
                 "a place's name length is wrong"
             }
             2 | 3 => {
-                let lengths = [517, 0xffff, 0x0204 ^ 0x0100, length ^ 1, length + 1, 35, 0];
+                // The length may be any by now: others have been at the card.
+                let longer = length.wrapping_add(1);
+                let lengths = [517, 0xffff, 0x0204 ^ 0x0100, length ^ 1, longer, 35, 0];
                 place[2..4].copy_from_slice(&rng.pick(&lengths).to_le_bytes());
                 "a place's record length is wrong"
             }
@@ -251,6 +368,19 @@ impl Tamperer<'_> {
     }
 }
 
+/// Where the place of this name starts.
+fn place_of(card: &[u8], name: &[u8]) -> Option<usize> {
+    let named = |place: &[u8]| Place::read(place).map_or(false, |place| place.name == name);
+    Some(card.chunks_exact(PLACE).position(named)? * PLACE)
+}
+
+/// Where the CMAC of the record stands, as the place that starts there tells its length.
+fn cmac_at(card: &[u8], at: usize) -> Range<usize> {
+    let length = usize::from(u16::from_le_bytes([card[at + 2], card[at + 3]]));
+    let end = at + 68 + length.clamp(36, RECORD_MAX);
+    end - 16..end
+}
+
 fn slot(rng: &mut Rng, area: &[u8], size: usize) -> usize {
     rng.below((area.len() / size).max(1)) * size
 }
@@ -274,4 +404,40 @@ fn resize(rng: &mut Rng, area: &mut Vec<u8>, size: usize) {
         65 * size,
     ];
     area.resize(rng.pick(&lengths), 0);
+}
+
+#[cfg(test)]
+mod tests {
+    use super::*;
+    use crate::area::Card;
+
+    /// A card that was forged before may have any bytes, also in its lengths.
+    #[test]
+    fn any_card_can_be_forged_again() {
+        let mut rng = Rng::new(1);
+        let cast = Cast::new(&mut rng);
+        let (card, chip) = cast::sound_start(&mut rng, &cast, 3, 3);
+        let past = [(card.encode(), chip.encode())];
+        let (mut sound, mut damaged) = (0, 0);
+        for round in 0..2000 {
+            let mut card = match round % 2 {
+                0 => past[0].0.clone(),
+                _ => rng.bytes(3 * PLACE),
+            };
+            for _ in 0..20 {
+                let mut forger = Tamperer {
+                    rng: &mut rng,
+                    cast: &cast,
+                    past: &past,
+                };
+                forger.forge(&mut card, &past[0].1);
+                assert_eq!(card.len(), 3 * PLACE);
+                match Card::decode(&card) {
+                    Some(_) => sound += 1,
+                    None => damaged += 1,
+                }
+            }
+        }
+        assert!(sound > 5000 && damaged > 5000);
+    }
 }
