@@ -3,8 +3,7 @@ use mathlib.Core.Path.{_≡_, refl, sym, _∙_}
 use mathlib.Core.Logic.{_≢_}
 use mathlib.Core.Bool.{Bool, true, false, not, _&&_}
 use mathlib.Core.List.{List, [], _∷_, _++_}
-use Prim.Native.Nat.{ℕ, suc}
-use native.Mathlib.Omega.{arith}
+use Prim.Native.Nat.{ℕ}
 use borrow.Author.Tests.{not-true, not-false}
 use Rattle.spec.specs.Status.{ok, Test, _when_, refuseIf, firstOf}
 use Rattle.spec.proofs.Status.{stops, passes}
@@ -16,17 +15,6 @@ is-false {b} e t = sym e ∙ not-true b t
 
 pub is-true : {b x : Bool} → b ≡ x → not b ≡ false → x ≡ true
 is-true {b} e t = sym e ∙ not-false b t
-
--- one test with a number, which is not 0: given and not given
-pub said : (n : ℕ) (t : Bool) (s : ℕ) → s ≡ firstOf ((n when t) ∷ []) → s ≢ 0 → t ≡ true
-unfolding refuseIf
-said n true s e h = refl
-said n false s e h = absurd (h e)
-
-pub unsaid : (n : ℕ) (t : Bool) (s : ℕ) → s ≡ firstOf ((suc n when t) ∷ []) → s ≡ 0 → t ≡ false
-unfolding refuseIf
-unsaid n true s e h = let z : suc n ≡ 0 = sym e ∙ h in absurd (omega arith)
-unsaid n false s e h = refl
 
 -- one number for two tests
 both-say : (a b : Bool) (n x : ℕ) → refuseIf (not (a && b)) n x ≡ refuseIf (not a) n (refuseIf (not b) n x)

@@ -4,7 +4,7 @@
 --   finalizeEarly                    those of a finalize
 --   given, bindingGiven              what a name has, as the code hands it on: held or not, and the bytes
 --   authentic, fresh                 the tests for 11, and for 12 of a record with flag 8, pass
---   downgradeTests                   the test for 12 of a record without it
+--   downgradeTests, offsetTests      the test for 12 of a record without it, and the one for 14
 --   judged                           a call's status, and the slots that the name has, once the tests before them have passed
 --   recordWritten, recordErased      card and chip, with the slots that were found written and cleared
 use mathlib.Core.Bool.{Bool, false, cond, not, _&&_}
@@ -15,7 +15,7 @@ use lib.Dec.{leb}
 use lib.ListN.{length}
 use Rattle.spec.specs.Status.{Test, _when_, firstOf, onOk}
 use Rattle.spec.specs.Name.{Name, validName, validPrefix}
-use Rattle.spec.specs.Record.{requireIntegrity, requireReplayProtection, validFlags, maxDataSize, flagsOf, tagOf, macOk, sealRecord}
+use Rattle.spec.specs.Record.{requireIntegrity, requireReplayProtection, validFlags, maxDataSize, dataSizeOf, flagsOf, tagOf, macOk, sealRecord}
 use Rattle.spec.specs.Area.{kvFormat, rbpFormat}
 use Rattle.spec.specs.Request.{Binding}
 use Rattle.spec.specs.Decisions.{keySized, ivSized, tagMatches, downgraded}
@@ -71,6 +71,9 @@ fresh tag r = not (requireReplayProtection (flagsOf r) && not (tagMatches tag r)
 -- 02, No. 4: of a stored record, and of what a set is to store
 abbrev pub downgradeTests : ℕ → Bool → List Test
 downgradeTests flags tagHeld = (12 when downgraded requireReplayProtection flags tagHeld) ∷ []
+
+abbrev pub offsetTests : ℕ → List ℕ → List Test
+offsetTests offset r = (14 when not (leb offset (dataSizeOf r))) ∷ []
 
 -- ---- what is decided
 

@@ -22,7 +22,7 @@ ghost use Rattle.spec.specs.Record.{requireReplayProtection, wellFormed, dataSi
 ghost use Rattle.spec.specs.Status.{firstOf};
 ghost use Rattle.spec.specs.Decisions.{getHeld, readCount, readOutput};
 ghost use Rattle.spec.specs.Calls.{bindingOf, storeGet, storeGetInfo};
-ghost use Rattle.store.specs.Parts.{getEarly, given, bindingGiven, authentic, fresh, judged};
+ghost use Rattle.store.specs.Parts.{getEarly, given, bindingGiven, authentic, fresh, offsetTests, judged};
 
 // 1 to 3: what a get asks before it looks the name up.
 pub fn early_status(kv: &[u8], rbp: &[u8], device_key: &[u8], name: &[u8]) -> u32
@@ -63,6 +63,17 @@ fn is_fresh(tag_held: bool, tag: &[u8], stored: &[u8]) -> bool
     mac::copy_difference(tag, stored) == 0
 }
 
+// 14, or done.
+fn offset_status(stored: &[u8], offset: usize) -> u32
+    requires { ⌜ wellFormed (now stored) ≡ true ⌝ }
+    ensures { λ r. ⌜ r ≡ firstOf (offsetTests offset (now (stored .entry))) ⌝ }
+{
+    if (record::record_data_size(stored) as usize) < offset {
+        return status::ERR_OFFSET;
+    }
+    status::OK
+}
+
 // 12 where the chip has a name that the card lacks, else 6; then 8, 11, 12 with replay protection and without, 14.
 pub fn held_status(
     device_key: [u8; 16],
@@ -92,13 +103,7 @@ pub fn held_status(
         return status::ERR_ROLLBACK;
     }
     let downgrade = judge::downgrade_status(record::record_flags(stored), tag_held);
-    if downgrade != status::OK {
-        return downgrade;
-    }
-    if (record::record_data_size(stored) as usize) < offset {
-        return status::ERR_OFFSET;
-    }
-    status::OK
+    status::first(downgrade, offset_status(stored, offset))
 }
 
 pub fn judge(kv: &[u8], rbp: &[u8], device_key: &[u8], name: &[u8], offset: usize) -> Judged

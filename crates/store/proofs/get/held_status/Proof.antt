@@ -1,15 +1,16 @@
 -- `store::get::held_status`: 12 or 6 for an absent record; then 8, 11, 12 with replay protection and without, 14.
-use mathlib.Core.Path.{_∙_}
+use mathlib.Core.Path.{refl, _∙_}
 use mathlib.Core.Bool.{not, _&&_}
 use borrow.Author.Needs.{needs}
-use borrow.Author.Tests.{not-true, not-false, lt-leb, le-leb}
+use borrow.Author.Tests.{not-true, not-false}
 use Rattle.spec.specs.Status.{refuseIf}
 use Rattle.spec.specs.Record.{requireIntegrity, requireReplayProtection, flagsOf, macOk}
 use Rattle.spec.specs.Decisions.{tagMatches, getHeld}
-use Rattle.store.specs.Parts.{given}
+use Rattle.store.specs.Parts.{given, downgradeTests, offsetTests}
 use Rattle.buffers.proofs.Split.{not-false-is, not-true-is}
 use Rattle.store.proofs.Given.{some-given}
-use Rattle.store.proofs.Tests.{is-false, is-true, said, unsaid}
+use Rattle.store.proofs.Judged.{in-order}
+use Rattle.store.proofs.Tests.{is-false, is-true}
 use Rattle.store.proofs.get.held_status.Statement.{statement}
 use Rattle.store.proofs.get.held_status.Tie as tie
 
@@ -89,99 +90,39 @@ record-flags-requires c κs =
     let if3 = c .before .before .before .before .if3 in
     is-true (record-valid .ensures) (if3 .left)
 
+offset-status-requires : tie.Need-offset-status-requires
+offset-status-requires c κs =
+    let record-valid = c .before .before .before .before .before .before .before .record-valid in
+    let if3 = c .before .before .before .before .before .before .if3 in
+    is-true (record-valid .ensures) (if3 .left)
+
 returns-6 : tie.Need-returns-6
 unfolding getHeld refuseIf
 returns-6 c =
-    let args = c .before .before .before .before .before .before .before .before .before .before .before .before .before .args in
-    let if1 = c .before .before .before .before .before .before .before .before .before .if1 in
-    let record-valid = c .before .before .before .before .before .before .before .before .record-valid in
-    let if3 = c .before .before .before .before .before .before .before .if3 in
-    let is-authentic = c .before .before .before .before .before .before .is-authentic in
-    let if4 = c .before .before .before .before .before .if4 in
-    let is-fresh = c .before .before .before .before .is-fresh in
-    let if5 = c .before .before .before .if5 in
-    let record-flags = c .before .before .record-flags in
-    let downgrade-status = c .before .downgrade-status in
+    let args = c .before .before .before .before .before .before .before .before .before .before .before .before .before .before .args in
+    let if1 = c .before .before .before .before .before .before .before .before .before .before .if1 in
+    let record-valid = c .before .before .before .before .before .before .before .before .before .record-valid in
+    let if3 = c .before .before .before .before .before .before .before .before .if3 in
+    let is-authentic = c .before .before .before .before .before .before .before .is-authentic in
+    let if4 = c .before .before .before .before .before .before .if4 in
+    let is-fresh = c .before .before .before .before .before .is-fresh in
+    let if5 = c .before .before .before .before .if5 in
+    let record-flags = c .before .before .before .record-flags in
+    let downgrade-status = c .before .before .downgrade-status in
+    let offset-status = c .before .offset-status in
     let s = args .stored .now in
     let wrong = requireIntegrity (flagsOf s) && not (macOk (args .device-key) (args .name .now) s) in
     let stale = requireReplayProtection (flagsOf s) && not (tagMatches (given (args .tag-held) (args .tag .now)) s) in
-    let downgrade = not (requireReplayProtection (record-flags .result)) && args .tag-held in
-    downgrade-status .ensures ∙ rw (
+    let downgrade = downgradeTests (record-flags .result) (args .tag-held) in
+    c .first .ensures
+    ∙ in-order downgrade (offsetTests (args .offset) s) _ _ refl (downgrade-status .ensures) (offset-status .ensures)
+    ∙ rw (
       not-false (args .held) (if1 .left),
       is-true (record-valid .ensures) (if3 .left),
       not-true-is wrong (is-true (is-authentic .ensures) (if4 .left)),
       not-true-is stale (is-true (is-fresh .ensures) (if5 .left)),
       some-given (args .tag-held) (args .tag .now),
       ← record-flags .ensures,
-      said 12 downgrade _ (downgrade-status .ensures) (c .if6 .taken),
-    )
-
-record-data-size-requires : tie.Need-record-data-size-requires
-record-data-size-requires c κs =
-    let record-valid = c .before .before .before .before .before .before .before .before .record-valid in
-    let if3 = c .before .before .before .before .before .before .before .if3 in
-    is-true (record-valid .ensures) (if3 .left)
-
-returns-7 : tie.Need-returns-7
-unfolding getHeld refuseIf
-returns-7 c =
-    let args = c .before .before .before .before .before .before .before .before .before .before .before .before .before .before .before .args in
-    let if1 = c .before .before .before .before .before .before .before .before .before .before .before .if1 in
-    let record-valid = c .before .before .before .before .before .before .before .before .before .before .record-valid in
-    let if3 = c .before .before .before .before .before .before .before .before .before .if3 in
-    let is-authentic = c .before .before .before .before .before .before .before .before .is-authentic in
-    let if4 = c .before .before .before .before .before .before .before .if4 in
-    let is-fresh = c .before .before .before .before .before .before .is-fresh in
-    let if5 = c .before .before .before .before .before .if5 in
-    let record-flags = c .before .before .before .before .record-flags in
-    let downgrade-status = c .before .before .before .downgrade-status in
-    let if6 = c .before .before .if6 in
-    let record-data-size = c .before .record-data-size in
-    let s = args .stored .now in
-    let wrong = requireIntegrity (flagsOf s) && not (macOk (args .device-key) (args .name .now) s) in
-    let stale = requireReplayProtection (flagsOf s) && not (tagMatches (given (args .tag-held) (args .tag .now)) s) in
-    let downgrade = not (requireReplayProtection (record-flags .result)) && args .tag-held in
-    rw (
-      not-false (args .held) (if1 .left),
-      is-true (record-valid .ensures) (if3 .left),
-      not-true-is wrong (is-true (is-authentic .ensures) (if4 .left)),
-      not-true-is stale (is-true (is-fresh .ensures) (if5 .left)),
-      some-given (args .tag-held) (args .tag .now),
-      ← record-flags .ensures,
-      unsaid 11 downgrade _ (downgrade-status .ensures) (if6 .left),
-      ← record-data-size .ensures,
-      lt-leb _ _ (c .if7 .taken),
-    )
-
-returns-8 : tie.Need-returns-8
-unfolding getHeld refuseIf
-returns-8 c =
-    let args = c .before .before .before .before .before .before .before .before .before .before .before .before .before .before .before .args in
-    let if1 = c .before .before .before .before .before .before .before .before .before .before .before .if1 in
-    let record-valid = c .before .before .before .before .before .before .before .before .before .before .record-valid in
-    let if3 = c .before .before .before .before .before .before .before .before .before .if3 in
-    let is-authentic = c .before .before .before .before .before .before .before .before .is-authentic in
-    let if4 = c .before .before .before .before .before .before .before .if4 in
-    let is-fresh = c .before .before .before .before .before .before .is-fresh in
-    let if5 = c .before .before .before .before .before .if5 in
-    let record-flags = c .before .before .before .before .record-flags in
-    let downgrade-status = c .before .before .before .downgrade-status in
-    let if6 = c .before .before .if6 in
-    let record-data-size = c .before .record-data-size in
-    let s = args .stored .now in
-    let wrong = requireIntegrity (flagsOf s) && not (macOk (args .device-key) (args .name .now) s) in
-    let stale = requireReplayProtection (flagsOf s) && not (tagMatches (given (args .tag-held) (args .tag .now)) s) in
-    let downgrade = not (requireReplayProtection (record-flags .result)) && args .tag-held in
-    rw (
-      not-false (args .held) (if1 .left),
-      is-true (record-valid .ensures) (if3 .left),
-      not-true-is wrong (is-true (is-authentic .ensures) (if4 .left)),
-      not-true-is stale (is-true (is-fresh .ensures) (if5 .left)),
-      some-given (args .tag-held) (args .tag .now),
-      ← record-flags .ensures,
-      unsaid 11 downgrade _ (downgrade-status .ensures) (if6 .left),
-      ← record-data-size .ensures,
-      le-leb _ _ (c .if7 .left),
     )
 
 record-valid-requires : tie.Need-record-valid-requires
@@ -190,8 +131,8 @@ record-valid-requires c κs = search needs
 downgrade-status-requires : tie.Need-downgrade-status-requires
 downgrade-status-requires c κs = search needs
 
-cast-if7 : tie.Need-cast-if7
-cast-if7 c = search needs
+first-requires : tie.Need-first-requires
+first-requires c κs = search needs
 
 pub held-status-spec : {M : Type 1} → statement M
 held-status-spec =
@@ -207,8 +148,6 @@ held-status-spec =
     returns-5
     record-flags-requires
     downgrade-status-requires
-    returns-6
-    record-data-size-requires
-    cast-if7
-    returns-7
-    returns-8)
+    offset-status-requires
+    first-requires
+    returns-6)
