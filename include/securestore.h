@@ -58,14 +58,14 @@
  * So write the chip first: a write-once set then ends in the second state, and a remove can be repeated. A reset can be repeated in either order.
  *
  * Chip slots left over. After a power loss as above, or where another card is put in or someone wrote to it, the chip may hold a name that the card lacks
- * or has in a record without replay protection. Get and get_info answer 12 (11 if that record's CMAC is wrong), and the slot occupies the chip. The iterator
- * gives the card's names alone. In the chip's buffer a used slot has 1 in byte 0, the name's length in byte 1, the name from byte 2 on. To clear one:
+ * or has in a record without replay protection. Get and get_info answer 12 (8 or 11 if that record is bad in itself), and the slot occupies the chip. The
+ * iterator gives the card's names alone. In the chip's buffer a used slot has 1 in byte 0, the name's length in byte 1, the name from byte 2 on. To clear one:
  * - The card lacks the name. Set it with integrity and replay protection but not write once (flags 12 or 14, any data), then remove it. This needs a free
  *   slot on the card (else the set answers 10) and none in the chip, and it leaves the card's bytes as they were.
  * - The card has a record of it without replay protection. No set answers 0; one with the record's flags answers 12. Remove clears the card's slot and keeps
  *   the chip's: now the card lacks the name, and it has a free slot.
- * - That record is write once, too. Every set and every remove answers 7. What helps is the right card, or the record's slot made all zero in the card's
- *   buffer (now the card lacks the name), or a reset.
+ * - That record is write once, or not well formed. Every set and every remove answers 7, or 8. What helps is the right card, or the record's slot made all
+ *   zero in the card's buffer (now the card lacks the name), or a reset.
  *
  * Write once makes set and remove answer 7 while the card has the record. It protects neither from a reset nor from whoever can write or exchange the
  * card: on a blank card (all zero) the name is free again, and any set that finds room answers 0. Only if the chip has the name, that is for a record with

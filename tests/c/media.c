@@ -430,6 +430,8 @@ static void check_planted_order(uint32_t stored)
     uint8_t *record = card_slot() + 68;
     record[2]++;
     expect_status(get(), SECURESTORE_ERR_INVALID_RECORD, "planted: another revision");
+    expect_status(set(stored), SECURESTORE_ERR_INVALID_RECORD, "planted: set over another revision");
+    expect_status(remove_it(), SECURESTORE_ERR_INVALID_RECORD, "planted: remove of another revision");
     record[2]--;
     record[20]++;
     expect_status(get(), stored & SECURESTORE_REQUIRE_INTEGRITY ? SECURESTORE_ERR_AUTHENTICATION : SECURESTORE_ERR_ROLLBACK, "planted: changed data");

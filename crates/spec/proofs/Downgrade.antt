@@ -21,9 +21,11 @@ use Rattle.spec.specs.Calls.{areas, bindingOf, storeWorld, storeSet, sto
 use Rattle.spec.specs.Model.{Call, setCall, getCall, getInfoCall, removeCall, finalizeCall, requestOf, callName, storeStep}
 use Rattle.spec.specs.Incremental.{handleName, stagedData}
 use Rattle.spec.specs.Demand2.{Undamaged, Readable}
+use Rattle.spec.specs.Demand3.{isSet}
 use Rattle.spec.specs.Downgrade.{Vouched, OldCardRefused, OldCardLater, EntryKept, EntryLost, Planted, Downgrade}
 use Rattle.buffers.proofs.Split.{split, clash, clashO}
-use Rattle.buffers.proofs.Bytes.{bytesEq-eq, bytesEq-refl}
+use Rattle.buffers.proofs.Bytes.{bytesEq-eq}
+use Rattle.spec.proofs.NameLists.{other-name}
 use Rattle.spec.proofs.Slot.{kv-laws}
 use Rattle.spec.proofs.Area.{erase-sound, lookup-erase, editOption}
 use Rattle.spec.proofs.Record.{valid-record}
@@ -63,14 +65,51 @@ entry-stays name kv rbp c n =
     (λ h. rw (after-done storeWorld s q h) (ap (λ (b : Binding). b .tag) (other-binding s q (lawful c) (applied s q (lawful c) h) name n)))
     (λ h. rw (after-refused storeWorld s q h))
 
+-- the chip after a call, where a done one leaves it
+chip-stays : (kv rbp : List ℕ) (c : Call) → let s = areas kv rbp in
+    let q = requestOf c in
+    (statusOf storeWorld s q ≡ ok → storeWorld .edit s (q .name) (q .effect (bindingOf kv rbp (q .name))) .rbp ≡ rbp) → storeStep s c .after .rbp ≡ rbp
+chip-stays kv rbp c f =
+    let s = areas kv rbp in
+    let q = requestOf c in
+    by-status (statusOf storeWorld s q) (λ h. rw (after-done storeWorld s q h) (f h)) (λ h. rw (after-refused storeWorld s q h))
+
+-- a set that is done has a good name
+set-done : {P : Type 0} (kv rbp : List ℕ) (c : Call) (r : List ℕ) → requestOf c .effect (bindingOf kv rbp (callName c)) .kv ≡ write r → isSet c ≡ false
+    → statusOf storeWorld (areas kv rbp) (requestOf c) ≡ ok → P
+set-done kv rbp c r w n h = clash (isSet c) ((rw w at (applied (areas kv rbp) (requestOf c) (lawful c) h .kv-needs)) .0) n
+
+-- a call that neither sets nor removes its name leaves the whole chip
+reads-stay : (kv rbp : List ℕ) (c : Call) → isSet c ≡ false → c ≢ removeCall (callName c) → storeStep (areas kv rbp) c .after .rbp ≡ rbp
+unfolding setEffect
+reads-stay kv rbp (setCall key name flags iv value) n m =
+    let c = setCall key name flags iv value in
+    chip-stays kv rbp c (set-done kv rbp c _ refl n)
+reads-stay kv rbp (getCall key name offset output) n m = chip-stays kv rbp (getCall key name offset output) (λ h. refl)
+reads-stay kv rbp (getInfoCall key name) n m = chip-stays kv rbp (getInfoCall key name) (λ h. refl)
+reads-stay kv rbp (removeCall name) n m = absurd (m refl)
+reads-stay kv rbp (finalizeCall key h staging) n m =
+    let c = finalizeCall key h staging in
+    chip-stays kv rbp c (set-done kv rbp c _ refl n)
+
+-- a call that neither sets nor removes the name leaves its entry
+entry-left : (name kv rbp : List ℕ) (c : Call) → (name ≡ callName c → (isSet c ≡ false) × (c ≢ removeCall name))
+    → lookup rbpFormat (storeStep (areas kv rbp) c .after .rbp) name ≡ lookup rbpFormat rbp name
+entry-left name kv rbp c n = split (bytesEq name (callName c))
+    (λ z.
+    let e = bytesEq-eq name (callName c) z in
+    rw (reads-stay kv rbp c (n e .0) (rw e at (n e .1))))
+    (λ z. entry-stays name kv rbp c (other-name name (callName c) z))
+
 abbrev boxStep : List ℕ → List ℕ × Call → Outcome (List ℕ) Answer
 boxStep chip x = let p = storeStep (areas (x .0) chip) (x .1) in record { answer = p .answer; after = p .after .rbp }
 
-entry-remains : (name rbp : List ℕ) (calls : List (List ℕ × Call)) → ((x : List ℕ × Call) → List·Memᴰ x calls → name ≢ callName (x .1))
+entry-remains : (name rbp : List ℕ) (calls : List (List ℕ × Call))
+    → ((x : List ℕ × Call) → List·Memᴰ x calls → name ≡ callName (x .1) → (isSet (x .1) ≡ false) × (x .1 ≢ removeCall name))
     → lookup rbpFormat (final boxStep rbp calls) name ≡ lookup rbpFormat rbp name
 entry-remains name rbp [] n = refl
 entry-remains name rbp (x ∷ calls) n =
-    entry-remains name _ calls (λ y m. n y (List·Memᴰ·tail m)) ∙ entry-stays name (x .0) rbp (x .1) (n x (List·Memᴰ·head refl))
+    entry-remains name _ calls (λ y m. n y (List·Memᴰ·tail m)) ∙ entry-left name (x .0) rbp (x .1) (n x (List·Memᴰ·head refl))
 
 old-card-later : OldCardLater
 unfolding storeSet
@@ -156,7 +195,7 @@ entry-lost : (kv rbp name entry : List ℕ) (c : Call) → lookup rbpFormat rbp 
 entry-lost kv rbp name entry c h e = split (bytesEq name (callName c))
     (λ z. let n = bytesEq-eq name (callName c) z in rw n (own-lost kv rbp entry c (rw n at h) (rw n at e)))
     (λ z. clashO (lookup rbpFormat rbp name)
-    (sym (entry-stays name kv rbp c (λ y. clash (bytesEq name (callName c)) (rw y (bytesEq-refl (callName c))) z)) ∙ e) h)
+    (sym (entry-stays name kv rbp c (other-name name (callName c) z)) ∙ e) h)
 
 -- ---- the bench's plant, by computation
 

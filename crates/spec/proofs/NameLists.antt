@@ -1,12 +1,16 @@
--- Lists of names.
+-- Names that are other ones, and lists of names.
 use mathlib.Core.Path.{_≡_, refl}
+use mathlib.Core.Logic.{_≢_}
 use mathlib.Core.Bool.{true, false}
 use mathlib.Core.List.{List, [], _∷_, List·Memᴰ, List·Memᴰ·head, List·Memᴰ·tail, Memᴰ·cast}
 use Rattle.buffers.specs.Bytes.{bytesEq}
 use Rattle.buffers.proofs.Split.{split, clash}
-use Rattle.buffers.proofs.Bytes.{bytesEq-eq, bytesEq-refl}
+use Rattle.buffers.proofs.Bytes.{bytesEq-eq, bytesEq-refl, eq-bytesEq}
 use Rattle.spec.specs.Name.{Name}
 use Rattle.spec.specs.Slots.{member, dedup}
+
+pub other-name : (n m : Name) → bytesEq n m ≡ false → n ≢ m
+other-name n m h e = clash (bytesEq n m) (eq-bytesEq n m e) h
 
 pub member-in : (n : Name) (l : List Name) → member n l ≡ true → List·Memᴰ n l
 member-in n [] h = clash false h refl

@@ -7,8 +7,9 @@ use Rattle.spec.specs.Status.{ok}
 use Rattle.spec.specs.Name.{Name}
 use Rattle.spec.specs.Interleaving.{Side}
 use Rattle.spec.specs.Request.{Binding, Effect, Request, World, statusOf, run}
-use Rattle.buffers.proofs.Split.{split, clash}
-use Rattle.buffers.proofs.Bytes.{bytesEq-eq, bytesEq-refl}
+use Rattle.buffers.proofs.Split.{split}
+use Rattle.buffers.proofs.Bytes.{bytesEq-eq}
+use Rattle.spec.proofs.NameLists.{other-name}
 use Rattle.spec.proofs.Area.{editOption}
 use Rattle.spec.proofs.Status.{by-status}
 use Rattle.spec.proofs.World.{after-done, after-refused}
@@ -71,7 +72,7 @@ module _ {State Own Call : Type 0} (W : World State) (M : World Own) (requestOf 
       accepted e n j = rw (after-done W s q e, after-done M m q (sym same ∙ e)) (split (bytesEq n (q .name))
           (λ z. rw (bytesEq-eq n (q .name) z) (A .own d s c a o e ∙ rw has (sym (A .model-own m (q .name) (q .effect (M .binding m (q .name)))))))
           (λ z.
-          let h : n ≢ q .name = λ y. clash (bytesEq n (q .name)) (rw y (bytesEq-refl (q .name))) z in
+          let h = other-name n (q .name) z in
           A .other d s c a o e n h ∙ g n j ∙ sym (A .model-other m (q .name) n (q .effect (M .binding m (q .name))) h)))
 
       followed : Agree (run W s q .after) (run M m q .after)
