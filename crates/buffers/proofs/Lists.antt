@@ -41,6 +41,14 @@ put-next d front s at h =
     ap (λ (k : ℕ). drop (k + length s) (front ++ drop at d)) (sym h) ∙ drop-append-add front (drop at d) (length s) ∙ drop-drop (length s) at d in
     rw (take-at front (drop at d) at h, e) (sym (append-assoc front s (drop (at + length s) d)))
 
+-- a part that begins at the front, as the code has it
+pub front : (n : ℕ) (l : List ℕ) → take (n - 0) (drop 0 l) ≡ take n l
+front n l = let e : n - 0 ≡ n = omega arith in rw e
+
+-- a part put at the front of a buffer
+pub in-front : (src s d out : List ℕ) → out ≡ putAt d 0 src → src ≡ s → out ≡ s ++ drop (length s) d
+in-front src s d out e h = let z : 0 + length src ≡ length s = omega (arith, ap (λ (l : List ℕ). length l) h) in e ∙ rw (z, h)
+
 -- what a buffer of zeros holds behind its front
 pub fill : (n k : ℕ) (l : List ℕ) → length l ≡ k → l ++ drop k (zeros n) ≡ zeroFill n l
 fill n k l h = rw (drop-zeros n k, h)

@@ -1,46 +1,36 @@
 -- The calls on key files: what they answer, what they refuse, and that a saved key is loaded. Assumes nothing.
 use mathlib.Core.Path.{_≡_, refl, sym, ap, subst, _∙_}
 use mathlib.Core.Bool.{Bool, true, false, cond, not}
-use mathlib.Core.List.{List, [], _∷_, _++_}
-use Prim.Native.Nat.{ℕ, _-_, _≤_, min}
+use mathlib.Core.List.{List, [], _∷_}
+use Prim.Native.Nat.{ℕ, _≤_}
 use native.Mathlib.Omega.{arith}
-use borrow.Author.Tests.{leb-true, le-leb, lt-leb, eqb-true, eqb-false}
+use borrow.Author.Tests.{leb-true, le-leb, lt-leb}
 use lib.Dec.{leb}
-use lib.ListN.{length, drop, length-take, length-drop}
-use lib.Seq.{take-all, take-at, take-append-seam}
+use lib.ListN.{length, drop}
+use lib.Seq.{take-append-seam}
 use Rattle.buffers.specs.Bytes.{every, zeros}
-use Rattle.spec.specs.Status.{ok, isListed, isOk, refuseIf, firstOf, Answer}
+use Rattle.spec.specs.Status.{ok, isListed, firstOf, Answer, bufferAnswer, bytesGiven}
 use Rattle.spec.specs.Name.{keyName}
-use Rattle.spec.specs.Record.{requireConfidentiality, dataSizeOf, flagsOf, ivOf, storedDataOf, crypt, encKey}
 use Rattle.spec.specs.Interleaving.{Outcome}
 use Rattle.spec.specs.Calls.{Areas, areas, storeSet, storeGet}
 use Rattle.spec.specs.Demand1.{Well}
 use Rattle.spec.specs.Demand2.{Readable, opened, Stores}
 use Rattle.buffers.proofs.Split.{split, not-false-is}
-use Rattle.spec.proofs.Status.{first-listed, passed, on-refused}
-use Rattle.spec.proofs.Demand1.{demand1-holds}
+use Rattle.spec.proofs.Status.{first-listed, passed, got-ok, answer-done}
+use Rattle.spec.proofs.Demand1.{buffer-well, demand1-holds}
 use Rattle.spec.proofs.Get.{get-exact}
+use Rattle.spec.proofs.Whole.{whole-given}
 use Rattle.spec.proofs.Set.{round-trip, set-exact}
-use Rattle.spec.proofs.Record.{ValidRecord, valid-record, crypt-length}
 use Rattle.keys.specs.KeyFile.{formatKeyFile, keyFileValid}
-use Rattle.keys.specs.Calls.{keyFileAnswer, formatTests, writeKeyFile, saveKey, keyRecord, fileOf, loadTests, loadKey}
+use Rattle.keys.specs.Calls.{formatTests, writeKeyFile, saveKey, keyRecord, loadTests, loadKey}
 use Rattle.keys.specs.Laws.{WellFormed, KeyCallsWell, KeyRefusals, holding, FormatGives, LoadReady, LoadExact, SaveExact, SaveLoads}
 use Rattle.keys.specs.declared.key_file.KeyAttributes.{KeyAttributes}
 use Rattle.keys.proofs.Header.{well-formed, is-valid}
-use Rattle.keys.proofs.Written.{file-length, answer-done, short-buffer, long-material, writes}
+use Rattle.keys.proofs.Written.{file-length, short-buffer, long-material, writes}
 use Rattle.keys.proofs.Loaded.{not-got, not-a-file, loads}
 use Rattle.keys.proofs.FileLaws.{written-formed}
 
 -- ---- demand 1
-
-well : (n : ℕ) (file buf : List ℕ) (s : Areas) → isListed n ≡ true → Well 1 buf s (record { answer = keyFileAnswer n file buf; after = s })
-unfolding keyFileAnswer
-well n file buf s l = record {
-  listed = l;
-  numbers = λ h. on-refused n (length file ∷ []) (0 ∷ []) h;
-  output = λ h. on-refused n (file ++ drop (length file) buf) buf h;
-  after = λ h. refl;
-}
 
 format-listed : (m buf : List ℕ) → isListed (firstOf (formatTests m buf)) ≡ true
 unfolding formatTests isListed
@@ -68,28 +58,15 @@ fits-well false kv rbp o h = record { listed = refl; numbers = λ n. refl; outpu
 pub key-calls-well : KeyCallsWell
 unfolding writeKeyFile saveKey loadKey
 key-calls-well = record {
-  of-format = λ s a m buf. well (firstOf (formatTests m buf)) (formatKeyFile a m) buf s (format-listed m buf);
+  of-format = λ s a m buf. buffer-well (firstOf (formatTests m buf)) (formatKeyFile a m) buf s (format-listed m buf);
   of-save = λ kv rbp key id a m flags iv.
       fits-well (leb (length m) 444) kv rbp _ (demand1-holds .of-set kv rbp key (keyName id) flags iv (formatKeyFile a m));
   of-load = λ kv rbp key id buf.
       let n = firstOf (loadTests kv rbp key id buf) in
-      well n (fileOf (keyRecord kv rbp key id)) buf (areas kv rbp) (load-listed kv rbp key id buf);
+      buffer-well n (bytesGiven (keyRecord kv rbp key id)) buf (areas kv rbp) (load-listed kv rbp key id buf);
 }
 
 -- ---- what a get of a key's record gives
-
-got-ok : (s next : ℕ) → refuseIf (not (isOk s)) s next ≡ ok → (s ≡ ok) × (next ≡ ok)
-unfolding refuseIf
-got-ok s next h = split (isOk s) (λ e. (eqb-true s ok e, rw e at h)) (λ e. absurd (eqb-false s ok e (rw e at h)))
-
--- a valid record opens to as many bytes as it says
-opened-length : (key name r : List ℕ) → ValidRecord r → length (opened key name r) ≡ dataSizeOf r
-unfolding crypt encKey
-opened-length key name r v =
-    let stored : length (storedDataOf r) ≡ dataSizeOf r = rw (length-take, length-drop) (omega (arith, v .record-length)) in
-    split (requireConfidentiality (flagsOf r))
-    (λ e. rw (length-take, e, crypt-length key name (ivOf r) (storedDataOf r), stored) (omega arith))
-    (λ e. rw (length-take, e, stored) (omega arith))
 
 module _ (kv rbp key : List ℕ) (id : ℕ) where
   got-readable : keyRecord kv rbp key id .status ≡ ok → Readable kv rbp key (keyName id) 0
@@ -100,18 +77,9 @@ module _ (kv rbp key : List ℕ) (id : ℕ) where
   unfolding keyRecord
   readable-got h = get-exact kv rbp key (keyName id) 0 (zeros 480) .condition .1 h
 
-  -- the whole plaintext fits into 480 bytes
-  file-opened : (h : Readable kv rbp key (keyName id) 0) → fileOf (keyRecord kv rbp key id) ≡ opened key (keyName id) (h .r)
+  file-opened : (h : Readable kv rbp key (keyName id) 0) → bytesGiven (keyRecord kv rbp key id) ≡ opened key (keyName id) (h .r)
   unfolding keyRecord
-  file-opened h =
-      let r = h .r in
-      let n = dataSizeOf r in
-      let p = opened key (keyName id) r in
-      let v = valid-record r (h .valid) in
-      let whole = opened-length key (keyName id) r v in
-      let c : min 480 (n - 0) ≡ n = omega (arith, v .data-size) in
-      ap (λ (o : Outcome Areas Answer). fileOf (o .answer)) (get-exact kv rbp key (keyName id) 0 (zeros 480) .gives h)
-      ∙ rw (c, take-all n p (omega arith)) (take-at p (drop n (zeros 480)) n whole)
+  file-opened h = whole-given kv rbp key (keyName id) h
 
   -- ---- a load
 
@@ -119,7 +87,7 @@ module _ (kv rbp key : List ℕ) (id : ℕ) where
     load-ready : firstOf (loadTests kv rbp key id buf) ≡ ok → LoadReady kv rbp key id buf
     unfolding loadTests
     load-ready h =
-        let f = fileOf (keyRecord kv rbp key id) in
+        let f = bytesGiven (keyRecord kv rbp key id) in
         let a = passed (not (leb 480 (length buf))) 1 _ (omega arith) h in
         let s = got-ok (keyRecord kv rbp key id .status) _ (a .1) in
         let b = passed (not (keyFileValid f)) 13 ok (omega arith) (s .1) in
@@ -131,7 +99,7 @@ module _ (kv rbp key : List ℕ) (id : ℕ) where
         }
 
     -- a load of a record that is a file
-    module _ (f : List ℕ) (room : 480 ≤ length buf) (got : keyRecord kv rbp key id .status ≡ ok) (is-f : fileOf (keyRecord kv rbp key id) ≡ f)
+    module _ (f : List ℕ) (room : 480 ≤ length buf) (got : keyRecord kv rbp key id .status ≡ ok) (is-f : bytesGiven (keyRecord kv rbp key id) ≡ f)
         (formed : WellFormed f) where
       file-loads : firstOf (loadTests kv rbp key id buf) ≡ ok
       file-loads = loads kv rbp key id buf room (keyRecord kv rbp key id) refl got (rw is-f (is-valid f formed))
@@ -140,7 +108,7 @@ module _ (kv rbp key : List ℕ) (id : ℕ) where
       unfolding loadKey
       file-loaded =
           let status = firstOf (loadTests kv rbp key id buf) in
-          ap (λ (l : List ℕ). keyFileAnswer status l buf) is-f ∙ sym (answer-done status (length f) f buf _ file-loads refl refl)
+          ap (λ (l : List ℕ). bufferAnswer status l buf) is-f ∙ sym (answer-done status (length f) f buf _ file-loads refl refl)
 
     module _ (h : LoadReady kv rbp key id buf) where
       abbrev file : List ℕ
@@ -156,12 +124,12 @@ module _ (kv rbp key : List ℕ) (id : ℕ) where
         → firstOf (loadTests kv rbp key id buf) ≡ 13
     file-refused l h w =
         let g = keyRecord kv rbp key id in
-        let v : keyFileValid (fileOf g) ≡ false =
-        split (keyFileValid (fileOf g)) (λ e. absurd (w (rw (file-opened h) at (well-formed (fileOf g) e)))) (λ e. e) in
+        let v : keyFileValid (bytesGiven g) ≡ false =
+        split (keyFileValid (bytesGiven g)) (λ e. absurd (w (rw (file-opened h) at (well-formed (bytesGiven g) e)))) (λ e. e) in
         not-a-file kv rbp key id buf l g refl (readable-got h) v
 
 pub load-exact : LoadExact
-unfolding loadKey keyFileAnswer
+unfolding loadKey bufferAnswer
 load-exact = record {
   condition = λ kv rbp key id buf. (load-ready kv rbp key id buf, ready-loads kv rbp key id buf);
   gives = ready-gives;
@@ -174,7 +142,7 @@ format-gives a m buf h k =
     sym (answer-done (firstOf (formatTests m buf)) (length f) f buf _ (writes m buf h k) refl refl)
 
 pub key-refusals : KeyRefusals
-unfolding writeKeyFile formatTests keyFileAnswer saveKey loadKey loadTests keyRecord
+unfolding writeKeyFile formatTests bufferAnswer saveKey loadKey loadTests keyRecord
 key-refusals = record {
   format-length = λ a m buf h. short-buffer buf _ h;
   format-material = λ a m buf h k. long-material m buf h k;
@@ -217,7 +185,7 @@ got-loaded : (kv rbp key : List ℕ) (id : ℕ) (f buf : List ℕ) → WellForme
     → storeGet kv rbp key (keyName id) 0 (zeros 480) .answer ≡ holding (zeros 480) f → loadKey kv rbp key id buf ≡ holding buf f
 unfolding keyRecord
 got-loaded kv rbp key id f buf w room e =
-    let whole = ap fileOf e ∙ take-append-seam f (drop (length f) (zeros 480)) in
+    let whole = ap bytesGiven e ∙ take-append-seam f (drop (length f) (zeros 480)) in
     file-loaded kv rbp key id buf f room (ap (λ (g : Answer). g .status) e) whole w
 
 pub save-loads : SaveLoads

@@ -1,19 +1,17 @@
 -- A file written field by field. Assumes nothing.
-use mathlib.Core.Path.{_≡_, sym, ap, _∙_}
-use mathlib.Core.Logic.{_≢_}
+use mathlib.Core.Path.{_≡_, ap, _∙_}
 use mathlib.Core.Bool.{not}
-use mathlib.Core.List.{List, [], _∷_, _++_}
+use mathlib.Core.List.{List, _++_}
 use Prim.Native.Nat.{ℕ, _+_, _-_, _≤_, _<_}
 use borrow.Author.Tests.{le-leb, lt-leb}
 use lib.Dec.{leb}
 use lib.ListN.{length, take, drop, length-append}
-use Rattle.spec.specs.Status.{ok, refuseIf, firstOf, onOk}
-use Rattle.spec.proofs.Status.{on-refused}
+use Rattle.spec.specs.Status.{ok, refuseIf, firstOf}
 use Rattle.buffers.specs.Bytes.{putAt}
 use Rattle.buffers.proofs.Lists.{put-next}
 use Rattle.store.proofs.Slices.{front-part}
 use Rattle.keys.specs.KeyFile.{keyFileHeader, formatKeyFile}
-use Rattle.keys.specs.Calls.{keyFileAnswer, formatTests}
+use Rattle.keys.specs.Calls.{formatTests}
 use Rattle.keys.specs.declared.key_file.KeyAttributes.{KeyAttributes}
 
 -- the next field, put behind those that are there
@@ -24,19 +22,6 @@ behind d front s was is at p q h = q ∙ ap (λ (l : List ℕ). putAt l at s) p 
 pub file-length : (a : KeyAttributes) (m : List ℕ) → length (formatKeyFile a m) ≡ 36 + length m
 unfolding formatKeyFile keyFileHeader
 file-length a m = length-append (keyFileHeader a (length m)) m
-
--- ---- what is left in a key buffer
-
-pub answer-refused : (s t : ℕ) (file buf : List ℕ) → t ≡ s → s ≢ ok → record { status = s; numbers = 0 ∷ []; output = buf } ≡ keyFileAnswer t file buf
-unfolding keyFileAnswer
-answer-refused s t file buf e h =
-    let n : t ≢ ok = λ k. h (sym e ∙ k) in
-    rw (sym e, on-refused t (length file ∷ []) (0 ∷ []) n, on-refused t (file ++ drop (length file) buf) buf n)
-
-pub answer-done : (t n : ℕ) (file buf out : List ℕ) → t ≡ ok → n ≡ length file → out ≡ file ++ drop (length file) buf
-    → record { status = ok; numbers = n ∷ []; output = out } ≡ keyFileAnswer t file buf
-unfolding keyFileAnswer onOk
-answer-done t n file buf out e h o = rw (e, h, o)
 
 -- the test that both calls with a key buffer begin with
 pub short-buffer : (buf : List ℕ) (rest : ℕ) → length buf < 480 → refuseIf (not (leb 480 (length buf))) 1 rest ≡ 1

@@ -10,7 +10,7 @@ ghost use lib.ListN.{length, getD, drop};
 ghost use Rattle.buffers.specs.Bytes.{every};
 ghost use Rattle.spec.specs.Slots.{distinct, firstIndex};
 ghost use Rattle.spec.specs.Area.{kvFormat, payloadSize, slotFree, slotUsed, slotValid, slotName, holds, slotCount, slots, sized, names, intact, hasSpace};
-ghost use Rattle.spec.specs.Calls.{nextMatch};
+ghost use Rattle.spec.specs.Calls.{slotHasPrefix, nextMatch};
 ghost use Rattle.slots.specs.Kind.{formatOf};
 ghost use Rattle.slots.specs.Found.{foundIn, slotAt, CanRead, payloadAt, insertAt, eraseAt};
 
@@ -183,6 +183,14 @@ pub fn erase_at(kind: AreaKind, area: &mut [u8], found: Found)
     let start = found.at * w;
     let end = start + w;
     parts::clear(&mut area[start..end]);
+}
+
+// Whether a slot is used by a name with the prefix.
+pub fn prefix_at(kv: &[u8], prefix: &[u8], i: usize) -> bool
+    requires { ⌜ (sized kvFormat (now kv) ≡ true) × (intact kvFormat (now kv) ≡ true) × (i < slotCount kvFormat (now kv)) ⌝ }
+    ensures { λ r. ⌜ r ≡ slotHasPrefix (now (prefix .entry)) (slotAt kvFormat (now (kv .entry)) i) ⌝ }
+{
+    slot::slot_has_prefix(slot_at(AreaKind::Kv, kv, i), prefix)
 }
 
 // 01: the next slot of a "walk"

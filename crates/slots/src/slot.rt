@@ -122,7 +122,7 @@ pub(crate) fn slot_holds(kind: AreaKind, slot: &[u8], name: &[u8]) -> bool
     compare::bytes_equal(name, slot_name(kind, slot))
 }
 
-fn has_prefix(name: &[u8], prefix: &[u8]) -> bool
+pub fn has_prefix(name: &[u8], prefix: &[u8]) -> bool
     ensures { λ r. ⌜ r ≡ hasPrefix (now (prefix .entry)) (now (name .entry)) ⌝ }
 {
     let n = prefix.len();

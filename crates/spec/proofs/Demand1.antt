@@ -1,11 +1,11 @@
 -- Demand 1.
 use mathlib.Core.Path.{_≡_, refl}
 use mathlib.Core.Bool.{true}
-use mathlib.Core.List.{List, [], _∷_, map}
+use mathlib.Core.List.{List, [], _∷_, _++_, map}
 use Prim.Native.Nat.{ℕ}
-use lib.ListN.{length}
+use lib.ListN.{length, drop}
 use Rattle.buffers.specs.Bytes.{every, zeros}
-use Rattle.spec.specs.Status.{isListed, firstOf, answerOf, onOk}
+use Rattle.spec.specs.Status.{isListed, firstOf, answerOf, onOk, bufferAnswer}
 use Rattle.spec.specs.Record.{requireReplayProtection}
 use Rattle.spec.specs.Request.{Request, found, statusOf, run}
 use Rattle.spec.specs.Decisions.{setHeld, getHeld, removeHeld, setRequest, getRequest, getInfoRequest, removeRequest}
@@ -32,6 +32,17 @@ run-well n s q l e =
     let b = found storeWorld s q in
     let tests = order s (q .early) (q .tests b (storeWorld .room s)) in
     well n (statusOf storeWorld s q) (q .numbers b) (q .output b) (q .lent) s (storeWorld .edit s (q .name) (q .effect b)) (first-listed tests l) e
+
+-- of a call that leaves card and chip, and answers with a buffer
+pub buffer-well : {State : Type 0} (n : ℕ) (bytes buf : List ℕ) (s : State) → isListed n ≡ true
+    → Well 1 buf s (record { answer = bufferAnswer n bytes buf; after = s })
+unfolding bufferAnswer
+buffer-well n bytes buf s l = record {
+  listed = l;
+  numbers = λ h. on-refused n (length bytes ∷ []) (0 ∷ []) h;
+  output = λ h. on-refused n (bytes ++ drop (length bytes) buf) buf h;
+  after = λ h. refl;
+}
 
 pub demand1-holds : Demand1
 unfolding storeSet storeGet storeGetInfo storeRemove storeReset storeIteratorNext setStart setAddData storeSetFinalize

@@ -10,6 +10,7 @@ pub mod Status
 pub mod World
 pub mod Decision
 pub mod Get
+pub mod Whole
 pub mod Set
 pub mod Remove
 pub mod Reset

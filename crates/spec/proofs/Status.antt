@@ -1,13 +1,14 @@
 -- Laws of a list of tests, and of what depends on its outcome.
-use mathlib.Core.Path.{_≡_, refl, ap}
+use mathlib.Core.Path.{_≡_, refl, sym, ap, _∙_}
 use mathlib.Core.Logic.{_≢_}
 use mathlib.Core.Bool.{Bool, true, false, not}
 use mathlib.Core.List.{List, [], _∷_, _++_, map}
 use Prim.Native.Nat.{ℕ}
 use borrow.Author.Tests.{eqb-true, eqb-false, ne-eqb}
 use lib.Dec.{eqb}
+use lib.ListN.{length, drop}
 use Rattle.buffers.specs.Bytes.{every}
-use Rattle.spec.specs.Status.{ok, isListed, isOk, Test, _when_, refuseIf, firstOf, onOk}
+use Rattle.spec.specs.Status.{ok, isListed, isOk, Test, _when_, refuseIf, firstOf, onOk, bufferAnswer}
 use Rattle.buffers.proofs.Split.{split, both, not-true-is}
 
 abbrev pub number : Test → ℕ
@@ -92,3 +93,20 @@ passes l m z h = past l m (all-passed l z h)
 
 pub first-passed : (l m : List Test) → every nonzero (map number (l ++ m)) ≡ true → firstOf (l ++ m) ≡ ok → firstOf l ≡ ok
 first-passed l m z h = passed-all l (passed-split l m (all-passed (l ++ m) z h) .0)
+
+-- a status that is handed on where it is not 0
+pub got-ok : (s next : ℕ) → refuseIf (not (isOk s)) s next ≡ ok → (s ≡ ok) × (next ≡ ok)
+unfolding refuseIf
+got-ok s next h = split (isOk s) (λ e. (eqb-true s ok e, rw e at h)) (λ e. absurd (eqb-false s ok e (rw e at h)))
+
+-- what is answered with a buffer
+pub answer-refused : (s t : ℕ) (bytes buf : List ℕ) → t ≡ s → s ≢ ok → record { status = s; numbers = 0 ∷ []; output = buf } ≡ bufferAnswer t bytes buf
+unfolding bufferAnswer
+answer-refused s t bytes buf e h =
+    let n : t ≢ ok = λ k. h (sym e ∙ k) in
+    rw (sym e, on-refused t (length bytes ∷ []) (0 ∷ []) n, on-refused t (bytes ++ drop (length bytes) buf) buf n)
+
+pub answer-done : (t n : ℕ) (bytes buf out : List ℕ) → t ≡ ok → n ≡ length bytes → out ≡ bytes ++ drop (length bytes) buf
+    → record { status = ok; numbers = n ∷ []; output = out } ≡ bufferAnswer t bytes buf
+unfolding bufferAnswer onOk
+answer-done t n bytes buf out e h o = rw (e, h, o)

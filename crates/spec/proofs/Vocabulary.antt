@@ -1,7 +1,7 @@
 -- The laws that pin the words of the statements.
 use mathlib.Core.Path.{_≡_, refl, sym, ap, _∙_}
 use mathlib.Core.Logic.{_⊎_, inl, inr}
-use mathlib.Core.Bool.{Bool, true, false, _||_}
+use mathlib.Core.Bool.{Bool, true, false, _&&_, _||_}
 use mathlib.Core.List.{List, [], _∷_, _++_, flatten, List·Memᴰ, List·Memᴰ·head, List·Memᴰ·tail, List·Memᴰ·cases-cons, Memᴰ·cast}
 use mathlib.Core.Option.{Option, some}
 use Prim.Native.Nat.{ℕ, zero, suc, _+_, _*_, _≤_, _<_}
@@ -38,6 +38,10 @@ any-front : (P : ℕ → Bool) (l m : List ℕ) → any P l ≡ true → any P (
 any-front P [] m h = clash false h refl
 any-front P (n ∷ l) m h = split (P n) (λ e. rw e) (λ e. rw e (any-front P l m (rw e at h)))
 
+any-back : (P : ℕ → Bool) (l m : List ℕ) → any P m ≡ true → any P (l ++ m) ≡ true
+any-back P [] m h = h
+any-back P (n ∷ l) m h = split (P n) (λ e. rw e) (λ e. rw e (any-back P l m h))
+
 -- a number of a list has what all of the list have
 one-of : (P : ℕ → Bool) (s : ℕ) (l : List ℕ) → every P l ≡ true → any (eqb s) l ≡ true → P s ≡ true
 one-of P s [] b h = clash false h refl
@@ -46,16 +50,17 @@ one-of P s (n ∷ l) b h =
     split (eqb s n) (λ e. rw (eqb-true s n e) (p .0)) (λ e. one-of P s l (p .1) (rw e at h))
 
 -- 0 to 14, and what 02 adds
-listed-is : (s : ℕ) → isListed s ≡ true → (s ≤ 14) ⊎ (s ≡ 19)
+listed-is : (s : ℕ) → isListed s ≡ true → (s ≤ 14) ⊎ ((19 ≤ s) × (s ≤ 21))
 unfolding isListed
 listed-is s h =
-    let t = one-of (λ n. leb n 14 || eqb n 19) s statusTable refl h in
-    split (leb s 14) (λ e. inl (leb-true s 14 e)) (λ e. inr (eqb-true s 19 (rw e at t)))
+    let t = one-of (λ n. leb n 14 || (leb 19 n && leb n 21)) s statusTable refl h in
+    split (leb s 14) (λ e. inl (leb-true s 14 e))
+    (λ e. let b = both (leb 19 s) (leb s 21) (rw e at t) in inr (leb-true 19 s (b .0), leb-true s 21 (b .1)))
 
-is-listed : (s : ℕ) → (s ≤ 14) ⊎ (s ≡ 19) → isListed s ≡ true
+is-listed : (s : ℕ) → (s ≤ 14) ⊎ ((19 ≤ s) × (s ≤ 21)) → isListed s ≡ true
 unfolding isListed
-is-listed s (inl h) = any-front (eqb s) (from 0 15) (19 ∷ []) (among 0 15 s (omega arith) (omega arith))
-is-listed s (inr h) = rw h
+is-listed s (inl h) = any-front (eqb s) (from 0 15) (from 19 3) (among 0 15 s (omega arith) (omega arith))
+is-listed s (inr h) = any-back (eqb s) (from 0 15) (from 19 3) (among 19 3 s (h .0) (omega (arith, h .1)))
 
 test-laws : TestLaws
 unfolding refuseIf

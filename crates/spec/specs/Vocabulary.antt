@@ -20,7 +20,7 @@ use Rattle.spec.specs.declared.incremental.IncSetHandle.{IncSetHandle}
 use Rattle.spec.specs.Interleaving.{Side, left, right, Tagged, by, lefts, rights, Interleaving, Outcome, answers, final, sharedStep}
 
 pub record TestLaws : Type 0 where
-  pub listed : (s : ℕ) → (isListed s ≡ true) ↔ ((s ≤ 14) ⊎ (s ≡ 19))
+  pub listed : (s : ℕ) → (isListed s ≡ true) ↔ ((s ≤ 14) ⊎ ((19 ≤ s) × (s ≤ 21)))
   -- of tests in order, the first that says so decides
   pub none-says : firstOf [] ≡ 0
   pub says : (n : ℕ) (rest : List Test) → firstOf ((n when true) ∷ rest) ≡ n

@@ -19,8 +19,8 @@ use Rattle.spec.proofs.World.{run-done, run-refused, Accepted, accepted}
 use Rattle.spec.proofs.Get.{get-exact}
 use Rattle.slots.specs.Found.{foundIn, CanRead, payloadAt}
 use Rattle.store.specs.declared.judge.Judged.{Judged}
-use Rattle.store.specs.Parts.{getEarly, judged}
-use Rattle.store.proofs.Judged.{readable, payload-is, all-passed, kv-found}
+use Rattle.store.specs.Parts.{getEarly, nowhere, judged}
+use Rattle.store.proofs.Judged.{readable, payload-is, judged-refused, all-passed, kv-found}
 
 abbrev answer-of : Outcome Areas Answer → Answer
 answer-of o = o .answer
@@ -101,6 +101,12 @@ module _ (kv rbp key name : List ℕ) where
             })
             ∙ sym (ap answer-of
             (run-done storeWorld (areas kv rbp) (getRequest requireReplayProtection key name offset output) (a .passed)))
+
+  -- a get that is refused before the name is looked up
+  pub got-early : (offset : ℕ) (output : List ℕ) (n : ℕ) → n ≡ firstOf first → n ≢ ok
+      → record { status = n; numbers = 0 ∷ []; output = output } ≡ storeGet kv rbp key name offset output .answer
+  got-early offset output n e h = got-refused offset (record { status = n; found = nowhere; entry = nowhere })
+      (judged-refused kv rbp name first (getRest offset) n e h) output h
 
   module _ (j : Judged) (e : j ≡ judged kv rbp name first (getRest 0)) where
     pub info-refused : j .status ≢ ok → record { status = j .status; numbers = 0 ∷ 0 ∷ []; output = [] } ≡ storeGetInfo kv rbp key name .answer

@@ -19,7 +19,7 @@ ghost use mathlib.Core.List.{[], _∷_};
 ghost use Prim.Native.Nat.{_≤_};
 ghost use lib.ListN.{length};
 ghost use Rattle.spec.specs.Record.{requireReplayProtection, wellFormed, dataSizeOf};
-ghost use Rattle.spec.specs.Status.{firstOf};
+ghost use Rattle.spec.specs.Status.{ok, firstOf};
 ghost use Rattle.spec.specs.Decisions.{getHeld, readCount, readOutput};
 ghost use Rattle.spec.specs.Calls.{bindingOf, storeGet, storeGetInfo};
 ghost use Rattle.store.specs.Parts.{getEarly, given, bindingGiven, authentic, fresh, offsetTests, judged};
@@ -106,13 +106,11 @@ pub fn held_status(
     status::first(downgrade, offset_status(stored, offset))
 }
 
-pub fn judge(kv: &[u8], rbp: &[u8], device_key: &[u8], name: &[u8], offset: usize) -> Judged
+// What a get decides once 1 to 3 have passed.
+pub fn judge_held(kv: &[u8], rbp: &[u8], device_key: &[u8], name: &[u8], offset: usize) -> Judged
+    requires { ⌜ firstOf (getEarly (now kv) (now rbp) (now «device_key») (now name)) ≡ ok ⌝ }
     ensures { λ r. ⌜ r ≡ judged (now (kv .entry)) (now (rbp .entry)) (now (name .entry)) (getEarly (now (kv .entry)) (now (rbp .entry)) (now («device_key» .entry)) (now (name .entry))) (getHeld requireReplayProtection (now («device_key» .entry)) (now (name .entry)) offset (bindingOf (now (kv .entry)) (now (rbp .entry)) (now (name .entry)))) ⌝ }
 {
-    let early = early_status(kv, rbp, device_key, name);
-    if early != status::OK {
-        return judge::refused(early);
-    }
     let found = areas::find(AreaKind::Kv, kv, name);
     let entry = areas::find(AreaKind::Rbp, rbp, name);
     let stored = areas::payload_at(AreaKind::Kv, kv, found);
@@ -124,6 +122,16 @@ pub fn judge(kv: &[u8], rbp: &[u8], device_key: &[u8], name: &[u8], offset: usiz
         found,
         entry,
     }
+}
+
+pub fn judge(kv: &[u8], rbp: &[u8], device_key: &[u8], name: &[u8], offset: usize) -> Judged
+    ensures { λ r. ⌜ r ≡ judged (now (kv .entry)) (now (rbp .entry)) (now (name .entry)) (getEarly (now (kv .entry)) (now (rbp .entry)) (now («device_key» .entry)) (now (name .entry))) (getHeld requireReplayProtection (now («device_key» .entry)) (now (name .entry)) offset (bindingOf (now (kv .entry)) (now (rbp .entry)) (now (name .entry)))) ⌝ }
+{
+    let early = early_status(kv, rbp, device_key, name);
+    if early != status::OK {
+        return judge::refused(early);
+    }
+    judge_held(kv, rbp, device_key, name, offset)
 }
 
 // The bytes of an accepted record, from an offset, to the front of the output.
@@ -143,8 +151,8 @@ pub fn read_record(
     parts::copy_fitting(&plain[offset..end], output)
 }
 
-// Plaintext reaches the output only after all tests.
-pub fn get(
+// A get once 1 to 3 have passed, for who reads many names of one card. Plaintext reaches the output only after all tests.
+pub fn get_held(
     kv: &[u8],
     rbp: &[u8],
     device_key: &[u8],
@@ -152,9 +160,10 @@ pub fn get(
     offset: usize,
     output: &mut [u8],
 ) -> Got
+    requires { ⌜ firstOf (getEarly (now kv) (now rbp) (now «device_key») (now name)) ≡ ok ⌝ }
     ensures { λ r. ⌜ record { status = r .status; numbers = r .count ∷ []; output = now (output .exit) } ≡ storeGet (now (kv .entry)) (now (rbp .entry)) (now («device_key» .entry)) (now (name .entry)) offset (now (output .entry)) .answer ⌝ }
 {
-    let judged = judge(kv, rbp, device_key, name, offset);
+    let judged = judge_held(kv, rbp, device_key, name, offset);
     if judged.status != status::OK {
         return Got {
             status: judged.status,
@@ -167,6 +176,26 @@ pub fn get(
         status: status::OK,
         count,
     }
+}
+
+pub fn get(
+    kv: &[u8],
+    rbp: &[u8],
+    device_key: &[u8],
+    name: &[u8],
+    offset: usize,
+    output: &mut [u8],
+) -> Got
+    ensures { λ r. ⌜ record { status = r .status; numbers = r .count ∷ []; output = now (output .exit) } ≡ storeGet (now (kv .entry)) (now (rbp .entry)) (now («device_key» .entry)) (now (name .entry)) offset (now (output .entry)) .answer ⌝ }
+{
+    let early = early_status(kv, rbp, device_key, name);
+    if early != status::OK {
+        return Got {
+            status: early,
+            count: 0,
+        };
+    }
+    get_held(kv, rbp, device_key, name, offset, output)
 }
 
 pub fn get_info(kv: &[u8], rbp: &[u8], device_key: &[u8], name: &[u8]) -> Info

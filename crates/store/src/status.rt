@@ -35,6 +35,10 @@ pub const ERR_OFFSET: u32 = 14;
 
 pub const ERR_TRANSFER_SIZE: u32 = 19;
 
+pub const ERR_INVALID_MIX: u32 = 20;
+
+pub const ERR_AMBIGUOUS: u32 = 21;
+
 // The first of two numbers that is not 0, as 01 orders tests.
 pub fn first(a: u32, b: u32) -> u32
     ensures { λ r. ⌜ r ≡ cond (eqb a 0) b a ⌝ }

@@ -7,7 +7,8 @@ use lib.ListN.{drop}
 use borrow.Author.Needs.{needs}
 use Rattle.keys.specs.KeyFile.{formatKeyFile}
 use Rattle.keys.specs.Calls.{formatTests, writeKeyFile}
-use Rattle.keys.proofs.Written.{file-length, answer-refused, answer-done, short-buffer, long-material, writes}
+use Rattle.spec.proofs.Status.{answer-refused, answer-done}
+use Rattle.keys.proofs.Written.{file-length, short-buffer, long-material, writes}
 use Rattle.keys.proofs.format.format_key_file.Statement.{statement}
 use Rattle.keys.proofs.format.format_key_file.Tie as tie
 

@@ -8,10 +8,12 @@ use lib.Seq.{length-take-le}
 use borrow.Author.Needs.{needs}
 use Rattle.keys.specs.KeyFile.{parseKeyFile}
 use Rattle.keys.specs.declared.key_file.KeyFile.{KeyFile}
-use Rattle.spec.specs.Status.{firstOf, Answer}
-use Rattle.keys.specs.Calls.{keyFileAnswer, keyRecord, fileOf, loadTests, loadKey}
-use Rattle.keys.proofs.Written.{answer-refused, answer-done, short-buffer}
-use Rattle.keys.proofs.Loaded.{not-got, not-a-file, loads, count-fits, file-valid, file-invalid, part, in-front}
+use Rattle.spec.specs.Status.{firstOf, Answer, bufferAnswer, bytesGiven}
+use Rattle.spec.proofs.Status.{answer-refused, answer-done}
+use Rattle.buffers.proofs.Lists.{front, in-front}
+use Rattle.keys.specs.Calls.{keyRecord, loadTests, loadKey}
+use Rattle.keys.proofs.Written.{short-buffer}
+use Rattle.keys.proofs.Loaded.{not-got, not-a-file, loads, count-fits, file-valid, file-invalid}
 use Rattle.keys.proofs.persist.load_persistent_key.Statement.{statement}
 use Rattle.keys.proofs.persist.load_persistent_key.Tie as tie
 
@@ -84,8 +86,8 @@ returns-3 c =
     let g : Answer = record { status = r .status; numbers = r .count ∷ []; output = file } in
     let buf = a .key-buf .now in
     let room = got .before .before .if1 .left in
-    let judged = parsed .parse-key-file .ensures ∙ ap parseKeyFile (part (r .count) file) in
-    let invalid = file-invalid (fileOf g) (λ z. test .if3 .taken (ap (λ (x : KeyFile). x .status) judged ∙ z)) in
+    let judged = parsed .parse-key-file .ensures ∙ ap parseKeyFile (front (r .count) file) in
+    let invalid = file-invalid (bytesGiven g) (λ z. test .if3 .taken (ap (λ (x : KeyFile). x .status) judged ∙ z)) in
     let refused = not-a-file (a .kv .now) (a .rbp .now) (a .device-key .now) (a .key-id) buf room g (got .get-key .ensures) (ok .if2 .left) invalid in
     rw (c .refused3 .ensures) (answer-refused 13 _ _ buf refused (omega arith))
 
@@ -115,7 +117,7 @@ paste-requires c κs =
     let file = got .get-key .last .1 .1 .1 .1 .0 in
     let g : Answer = record { status = r .status; numbers = r .count ∷ []; output = file } in
     let fits = count-fits (a .kv .now) (a .rbp .now) (a .device-key .now) (a .key-id) g (got .get-key .ensures) in
-    let size = ap (λ (l : List ℕ). length l) (part (r .count) file) ∙ length-take (r .count) file in
+    let size = ap (λ (l : List ℕ). length l) (front (r .count) file) ∙ length-take (r .count) file in
     let room = got .before .before .if1 .left in
     omega (arith, fits, size, room)
 
@@ -137,13 +139,13 @@ returns-4 c =
     let fits = count-fits (a .kv .now) (a .rbp .now) (a .device-key .now) (a .key-id) g (got .get-key .ensures) in
     let buf = a .key-buf .now in
     let room = got .before .before .if1 .left in
-    let judged = parsed .parse-key-file .ensures ∙ ap parseKeyFile (part (r .count) file) in
-    let valid = file-valid (fileOf g) (sym (ap (λ (x : KeyFile). x .status) judged) ∙ test .if3 .left) in
+    let judged = parsed .parse-key-file .ensures ∙ ap parseKeyFile (front (r .count) file) in
+    let valid = file-valid (bytesGiven g) (sym (ap (λ (x : KeyFile). x .status) judged) ∙ test .if3 .left) in
     let done = loads (a .kv .now) (a .rbp .now) (a .device-key .now) (a .key-id) buf room g (got .get-key .ensures) (ok .if2 .left) valid in
-    let out = in-front _ (fileOf g) buf _ (pasted .paste .ensures) (part (r .count) file) in
-    let count : r .count ≡ length (fileOf g) = sym (length-take-le (r .count) file (omega arith)) in
+    let out = in-front _ (bytesGiven g) buf _ (pasted .paste .ensures) (front (r .count) file) in
+    let count : r .count ≡ length (bytesGiven g) = sym (length-take-le (r .count) file (omega arith)) in
     let status = firstOf (loadTests (a .kv .now) (a .rbp .now) (a .device-key .now) (a .key-id) buf) in
-    answer-done status (r .count) (fileOf g) buf _ done count out ∙ ap (λ (x : Answer). keyFileAnswer status (fileOf x) buf) (got .get-key .ensures)
+    answer-done status (r .count) (bytesGiven g) buf _ done count out ∙ ap (λ (x : Answer). bufferAnswer status (bytesGiven x) buf) (got .get-key .ensures)
 
 pub load-persistent-key-spec : {M : Type 1} → statement M
 load-persistent-key-spec =

@@ -1,68 +1,28 @@
--- `store::get::get`: what the judgement says, then the record is read.
-use mathlib.Core.Path.{ap, _∙_}
-use mathlib.Core.List.{List}
-use Prim.Native.Nat.{ℕ}
+-- `store::get::get`: 1 to 3, then what is left.
+use mathlib.Core.Path.{sym, _∙_}
 use borrow.Author.Needs.{needs}
-use Rattle.spec.specs.Decisions.{readOutput}
-use Rattle.store.proofs.GetCall.{get-accepted, got-refused, got-done}
+use Rattle.store.proofs.GetCall.{got-early}
 use Rattle.store.proofs.get.get.Statement.{statement}
 use Rattle.store.proofs.get.get.Tie as tie
 
+early-status-requires : tie.Need-early-status-requires
+early-status-requires c κs = search needs
+
 returns : tie.Need-returns
 returns c =
-    let args = c .before .before .before .before .before .before .before .before .args in
-    let judge = c .before .before .judge in
-    got-refused (args .kv .now) (args .rbp .now) (args .device-key .now) (args .name .now) (args .offset)
-    (judge .result) (judge .ensures) (args .output .now) (c .if1 .taken)
+    let early-status = c .before .early-status in
+    let args = c .before .before .before .before .before .before .before .args in
+    got-early (args .kv .now) (args .rbp .now) (args .device-key .now) (args .name .now) (args .offset) (args .output .now)
+    (early-status .result) (early-status .ensures) (c .if1 .taken)
 
-payload-at-requires : tie.Need-payload-at-requires
-payload-at-requires c κs =
-    let args = c .before .before .before .before .before .before .before .before .args in
-    let judge = c .before .before .judge in
-    let a = get-accepted (args .kv .now) (args .rbp .now) (args .device-key .now) (args .name .now) (args .offset)
-    (judge .result) (judge .ensures) (c .if1 .left) in
-    a .kv-found
-
-array16-requires : tie.Need-array16-requires
-array16-requires c κs =
-    let args = c .before .before .before .before .before .before .before .before .before .args in
-    let judge = c .before .before .before .judge in
-    let if1 = c .before .if1 in
-    let a = get-accepted (args .kv .now) (args .rbp .now) (args .device-key .now) (args .name .now) (args .offset)
-    (judge .result) (judge .ensures) (if1 .left) in
-    a .key-sized
-
-read-record-requires : tie.Need-read-record-requires
-read-record-requires c κs =
-    let args = c .before .before .before .before .before .before .before .before .before .before .before .args in
-    let judge = c .before .before .before .before .before .judge in
-    let if1 = c .before .before .before .if1 in
-    let payload-at = c .before .before .payload-at in
-    let a = get-accepted (args .kv .now) (args .rbp .now) (args .device-key .now) (args .name .now) (args .offset)
-    (judge .result) (judge .ensures) (if1 .left) in
-    (a .valid _ (payload-at .ensures), a .in-range _ (payload-at .ensures))
-
-returns-2 : tie.Need-returns-2
-returns-2 c =
-    let args = c .before .before .before .before .before .before .before .before .before .before .before .before .before .before .args in
-    let judge = c .before .before .before .before .before .before .before .before .judge in
-    let if1 = c .before .before .before .before .before .before .if1 in
-    let payload-at = c .before .before .before .before .before .payload-at in
-    let array16 = c .before .before .before .before .array16 in
-    let read-record = c .before .before .read-record in
-    let a = get-accepted (args .kv .now) (args .rbp .now) (args .device-key .now) (args .name .now) (args .offset)
-    (judge .result) (judge .ensures) (if1 .left) in
-    let out = args .output .now in
-    let r = payload-at .result .now in
-    let bytes = read-record .ensures .1 ∙ ap (λ (k : List ℕ). readOutput k (args .name .now) (args .offset) out r) (array16 .ensures) in
-    got-done (args .kv .now) (args .rbp .now) (args .device-key .now) (args .name .now) (args .offset)
-    (judge .result) (judge .ensures) out a r (payload-at .ensures) _ (read-record .ensures .0) _ bytes
-
-judge-requires : tie.Need-judge-requires
-judge-requires c κs = search needs
+get-held-requires : tie.Need-get-held-requires
+get-held-requires c κs = sym (c .before .before .early-status .ensures) ∙ c .before .if1 .left
 
 same-length : tie.Need-same-length
 same-length c = search needs
 
+returns-2 : tie.Need-returns-2
+returns-2 c = search needs
+
 pub get-spec : {M : Type 1} → statement M
-get-spec = tie.close (tie.spec judge-requires returns payload-at-requires array16-requires read-record-requires same-length returns-2)
+get-spec = tie.close (tie.spec early-status-requires returns get-held-requires same-length returns-2)
