@@ -1,21 +1,21 @@
 /* securestore: named records over a removable card and a small protected chip. Link libsecurestore.a, which needs memcpy and memset and nothing else.
  *
  * The library keeps nothing between calls, allocates nothing and does no input or output. The caller reads the card (kv) and the chip (rbp) into two
- * buffers, lends them to a call, and writes both back, the chip first, after a set, set_finalize, save_key, remove or reset that answered
+ * buffers, lends them to a call, and writes both back, the chip first, after a set, set_finalize, save_key, store_mix, remove or reset that answered
  * SECURESTORE_OK. A call's stack was measured at 6.3 kB at most (save_key, x86-64); what a call leaves there, plaintext and derived keys among it, is not
  * wiped.
  *
  * Pointers. The library is proved for lent memory, and what makes memory lent is the caller's part:
  * - no pointer is null, also where its length is 0;
  * - each is valid for its length (or for the size in its declaration), for writing where it is not const, and aligned for its type;
- * - a length is that of an object, at most half the address space;
+ * - a length is that of an object, which has at most half the address space; it counts bytes, in levels and pans floats;
  * - memory that a call may write overlaps nothing else that is lent to the same call;
  * - nobody else uses lent memory while the call runs.
  * Nothing else is asked: any contents, any smaller or larger buffer and any number has an answer.
  *
  * Answers. A store call returns one of the numbers below, that of the first test that fails in the order given at the call. A refusal changes no lent
- * buffer and writes 0 through every out-number (count, data_size, flags, name_len, next_slot, a key file's fields). One thing besides is written by a
- * refusal: a refused set_start makes its handle all zero.
+ * buffer and writes 0 through every out-number (count, data_size, flags, name_len, next_slot, a key file's fields, session_id, sends). One thing besides is
+ * written by a refusal: a refused set_start makes its handle all zero.
  *
  * Names. A name has 1 to 64 bytes, each 0x20 to 0x7e or 0x80 to 0xff. Any other byte, that is a control byte (0x00 to 0x1f) or 0x7f, is refused with 3 in
  * a name or prefix that is given, and is damage (2) in one that stands on card or chip. No encoding is asked for and nothing is made alike: spaces count,
@@ -48,6 +48,33 @@
  *   caller does, when the record is stored or given up.
  * - A finalize does not use the handle up: another is another set of the same bytes, so that of a write-once record answers 7. With confidentiality its
  *   IV is for these bytes alone: before others are finalized, start again with a new IV. An all-zero handle is never stored: its name is empty, 3.
+ *
+ * Mixes. A mix is what a player hears: a session number, and up to 16 sends, each of them muted, or with a level, or with a level and a pan. It is kept as
+ * the data of a record whose name begins with "mix/" ("mix/" alone is such a name too), and found by its session number, without its name: a player who was
+ * cut off comes back with the number.
+ * - A mix has 9 to 153 bytes: session number (8), count of sends (1), then for each send its tag (1), level (4) and pan (4). Numbers are little-endian; level
+ *   and pan are the bits of a 32-bit float (IEEE 754, as C's float must be). Tag 0 is muted, 1 has a level, 2 a level and a pan; the bytes of what a send has
+ *   not are zero. encode_mix makes these bytes of floats, decode_mix gives the floats back, bit for bit, and no mix has two encodings.
+ * - A level lies from 0 to 4, a pan from -1 to 1, the ends included. -0 counts as 0, and its sign is kept. A NaN or an infinity is out of range. Bytes that
+ *   break a rule, or are too many or too few, are no mix, 20.
+ * - encode_mix and decode_mix are lent neither card nor chip. store_mix writes what a set writes. find_mix writes mix_buf and *count alone.
+ * - store_mix does not ask whether another record holds the session, so there may come to be two; then find_mix answers 21 for it until one is removed or
+ *   stored with another number. To keep a session's new mix, store it under the name and with the flags that the old one has.
+ * - find_mix tries every record on the card whose name begins with "mix/", as a get would. One that get refuses (8, 11, 12) or whose data are no mix (20)
+ *   may be the one that is looked for or a second one, so every find, of any session, then answers that number: of several the one in the lowest slot. A
+ *   plain set can put such data there, and so can whoever writes the card; power that is lost while a mix with replay protection is written back can leave
+ *   such a record. To get out of it, go over the names with iterator_next and the prefix "mix/", get each and decode what it gives: the first that is
+ *   refused is the bad one. Remove it, or store it again with its own flags. Where both answer 7 or 8 (write once, or not well formed), what helps is the
+ *   right card, or the record's slot made all zero in the card's buffer, or a reset.
+ * - A name that the chip alone holds is not tried. So where the card lost a mix with replay protection, find_mix answers 6 and a get of its name 12.
+ * - A session number is no secret and shows nothing of who asks: whoever gives it is given the mix. It is part of the record's data, so it can be read on
+ *   the card where confidentiality is not asked for. Who may come back is for the caller to test.
+ * - Integrity and replay protection are the caller's choice, by store_mix's flags, and each record is judged by its own (see Protection above). Whoever can
+ *   write the card can make every find be refused, by one bad record, and can put a mix without protection under a name that the chip does not hold; where
+ *   no other record has its session, find_mix gives it. find_mix gives neither name nor flags: a caller for whom this matters goes over the names, asks
+ *   securestore_get_info of each, and accepts no card that has a mix with other flags than those that it sets.
+ * - A find tests card and chip once, as every call does, then reads each mix on the card, and once more the one that it gives: its time grows with their
+ *   number.
  *
  * Power. Writing card and chip back is two writes, which the library cannot make atomic; a journal of both buffers can. Without replay protection a set
  * or remove changes the card alone. With it, power lost between the two writes leaves one of two states. In both, get and get_info answer 12 and reset 0.
@@ -86,20 +113,21 @@
 
 /* Version of header and library. */
 #define SECURESTORE_VERSION_MAJOR 0
-#define SECURESTORE_VERSION_MINOR 5
+#define SECURESTORE_VERSION_MINOR 6
 #define SECURESTORE_VERSION_PATCH 0
-#define SECURESTORE_VERSION_STRING "0.5.0"
+#define SECURESTORE_VERSION_STRING "0.6.0"
 
 /* What the store's calls return: one of these numbers. */
 typedef uint32_t securestore_status;
 
 #define SECURESTORE_OK 0u
-#define SECURESTORE_ERR_LENGTH 1u         /* card, chip, device key, IV, name buffer, key buffer or staging buffer of a wrong length */
+#define SECURESTORE_ERR_LENGTH 1u         /* card, chip, device key, IV, name, key, staging or mix buffer, or an array of sends, of a wrong length */
 #define SECURESTORE_ERR_CORRUPT 2u        /* card or chip is damaged: one bad slot is enough; a reset recovers, or a zeroed card */
-#define SECURESTORE_ERR_INVALID_NAME 3u   /* bad name, prefix or key identifier */
+#define SECURESTORE_ERR_INVALID_NAME 3u   /* bad name, prefix or key identifier; or a mix is to be stored under a name without "mix/" in front */
 #define SECURESTORE_ERR_INVALID_FLAGS 4u  /* unknown bits, or replay protection without integrity */
 #define SECURESTORE_ERR_DATA_SIZE 5u      /* more data than a record holds, given or declared */
-#define SECURESTORE_ERR_NOT_FOUND 6u      /* the card does not hold the name, nor, where it is to be read, the chip; or no name from there on has the prefix */
+#define SECURESTORE_ERR_NOT_FOUND 6u      /* the card does not hold the name, nor, where it is to be read, the chip; or no name from there on has the prefix;
+                                           * or no mix has the session */
 #define SECURESTORE_ERR_ALREADY_EXISTS 7u /* the old or the new flags say write once, and there is something under the name */
 #define SECURESTORE_ERR_INVALID_RECORD 8u /* the stored record is not well formed */
 #define SECURESTORE_ERR_FLAGS_MISMATCH 9u /* the flags differ from the stored ones */
@@ -109,6 +137,8 @@ typedef uint32_t securestore_status;
 #define SECURESTORE_ERR_INVALID_KEY_FILE 13u /* not a key file, or more material than one holds */
 #define SECURESTORE_ERR_OFFSET 14u        /* the offset lies beyond the data */
 #define SECURESTORE_ERR_TRANSFER_SIZE 19u /* a chunk past the declared size, a finalize short of it, or a handle whose sizes do not fit */
+#define SECURESTORE_ERR_INVALID_MIX 20u   /* no mix: bytes that break a rule, or too many or too few; over 16 sends, a bad tag, a level or pan out of range */
+#define SECURESTORE_ERR_AMBIGUOUS 21u     /* two or more mixes on the card have the session */
 
 /* Flags of a record. */
 #define SECURESTORE_WRITE_ONCE 1u
@@ -133,6 +163,15 @@ typedef uint32_t securestore_status;
 #define SECURESTORE_KEY_MATERIAL_MAX 444u
 #define SECURESTORE_STAGING_SIZE 480u /* not a byte more or less */
 #define SECURESTORE_SET_HANDLE_SIZE 88u
+#define SECURESTORE_MIX_MAX 153u    /* a header, then the sends */
+#define SECURESTORE_MIX_HEADER 9u   /* session number (8), count of sends (1) */
+#define SECURESTORE_SEND_SIZE 9u    /* tag (1), level (4), pan (4) */
+#define SECURESTORE_MIX_SENDS_MAX 16u
+
+/* Tags of a send. */
+#define SECURESTORE_SEND_MUTED 0u
+#define SECURESTORE_SEND_LEVEL 1u
+#define SECURESTORE_SEND_LEVEL_PAN 2u
 
 /* Where the fields of an incremental set's handle begin. Numbers are of 4 bytes, little-endian; the handle needs no alignment. */
 #define SECURESTORE_SET_HANDLE_NAME_AT 0u             /* 64 bytes: the name, then zeros */
@@ -163,7 +202,7 @@ static inline const char *securestore_status_text(securestore_status status)
     case SECURESTORE_ERR_DATA_SIZE:
         return "ERR_DATA_SIZE: more data than a record holds";
     case SECURESTORE_ERR_NOT_FOUND:
-        return "ERR_NOT_FOUND: no such name";
+        return "ERR_NOT_FOUND: no such name or session";
     case SECURESTORE_ERR_ALREADY_EXISTS:
         return "ERR_ALREADY_EXISTS: write once, and the name is in use";
     case SECURESTORE_ERR_INVALID_RECORD:
@@ -182,6 +221,10 @@ static inline const char *securestore_status_text(securestore_status status)
         return "ERR_OFFSET: the offset lies beyond the data";
     case SECURESTORE_ERR_TRANSFER_SIZE:
         return "ERR_TRANSFER_SIZE: chunks and declared size do not fit, or the handle is broken";
+    case SECURESTORE_ERR_INVALID_MIX:
+        return "ERR_INVALID_MIX: not a mix, or a send out of range";
+    case SECURESTORE_ERR_AMBIGUOUS:
+        return "ERR_AMBIGUOUS: two or more mixes have the session";
     default:
         return "unknown status";
     }
@@ -271,6 +314,35 @@ securestore_status securestore_load_key(const uint8_t *kv, size_t kv_len, const 
  * Tests: 13 for a wrong mark, another version than 0, a short header, trailing or missing bytes, or material over 444. */
 securestore_status securestore_parse_key_file(const uint8_t *file, size_t file_len, uint32_t *lifetime, uint32_t *key_type, uint32_t *usage, uint32_t *alg,
                                               uint32_t *enrollment_alg, uint32_t *material_len);
+
+/* Mixes: see Mixes above. */
+
+/* Stores a mix, given by its bytes, under a name that begins with "mix/": a set of these bytes. With replay protection both buffers must reach their media;
+ * iv must be new for every record with confidentiality under one device key.
+ * Tests: 20 bytes that are no mix; 3 name without "mix/" in front; then those of a set, from 1 on. 5 does not occur. */
+securestore_status securestore_store_mix(uint8_t *kv, size_t kv_len, uint8_t *rbp, size_t rbp_len, const uint8_t *device_key, size_t device_key_len,
+                                         const uint8_t *name, size_t name_len, uint32_t flags, const uint8_t *iv, size_t iv_len, const uint8_t *mix,
+                                         size_t mix_len);
+
+/* Finds the mix of a session: the bytes of the one record that holds it go to the front of mix_buf, the rest of it is as before; *count is their length.
+ * Tests: 1 lengths (card, chip, key of 16, mix_buf of at least 153), 2 damage; then each record whose name begins with "mix/", from slot 0 on: the first that
+ * a get refuses gives that number (8, 11, 12), the first whose data are no mix 20, whichever comes first; then 21 if two or more hold the session, 6 if
+ * none does. */
+securestore_status securestore_find_mix(const uint8_t *kv, size_t kv_len, const uint8_t *rbp, size_t rbp_len, const uint8_t *device_key,
+                                        size_t device_key_len, uint64_t session_id, uint8_t *mix_buf, size_t mix_buf_len, size_t *count);
+
+/* The bytes of a mix, from a tag, a level and a pan for each send: they go to the front of mix_buf, the rest of it is as before; *count is their length.
+ * There are as many sends as tags, 0 too. The three arrays have one length; levels[i] is looked at for tags 1 and 2, pans[i] for tag 2 alone.
+ * Tests: 1 mix_buf under 153, or levels_len or pans_len not tags_len; 20 more than 16 sends, a tag over 2, or a level or pan that is looked at and lies out
+ * of range. */
+securestore_status securestore_encode_mix(uint64_t session_id, const uint8_t *tags, size_t tags_len, const float *levels, size_t levels_len,
+                                          const float *pans, size_t pans_len, uint8_t *mix_buf, size_t mix_buf_len, size_t *count);
+
+/* What the bytes of a mix say: its session number, the number of its sends, and so many tags, levels and pans at the fronts of the arrays, with +0 for a level
+ * or pan that a send has not; the rest of the arrays is as before.
+ * Tests: 1 tags_len, levels_len or pans_len under 16, however few sends there are; 20 bytes that are no mix. */
+securestore_status securestore_decode_mix(const uint8_t *mix, size_t mix_len, uint64_t *session_id, uint8_t *tags, size_t tags_len, float *levels,
+                                          size_t levels_len, float *pans, size_t pans_len, size_t *sends);
 
 /* What is below has no refusal. */
 

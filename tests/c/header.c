@@ -49,8 +49,10 @@ static void test_status_text(void)
                 {SECURESTORE_ERR_ROLLBACK, 12, "ERR_ROLLBACK: "},
                 {SECURESTORE_ERR_INVALID_KEY_FILE, 13, "ERR_INVALID_KEY_FILE: "},
                 {SECURESTORE_ERR_OFFSET, 14, "ERR_OFFSET: "},
-                {SECURESTORE_ERR_TRANSFER_SIZE, 19, "ERR_TRANSFER_SIZE: "}};
-    static const securestore_status unknown[] = {15, 16, 17, 18, 20, 255, 256, 0x80000000u, 0xffffffffu};
+                {SECURESTORE_ERR_TRANSFER_SIZE, 19, "ERR_TRANSFER_SIZE: "},
+                {SECURESTORE_ERR_INVALID_MIX, 20, "ERR_INVALID_MIX: "},
+                {SECURESTORE_ERR_AMBIGUOUS, 21, "ERR_AMBIGUOUS: "}};
+    static const securestore_status unknown[] = {15, 16, 17, 18, 22, 23, 255, 256, 0x80000000u, 0xffffffffu};
     size_t i;
     expect(sizeof(securestore_status) == 4 && (securestore_status)-1 == 0xffffffffu, "status: a uint32_t");
     for (i = 0; i < sizeof rows / sizeof rows[0]; i++) {
@@ -73,7 +75,7 @@ static void test_version(void)
     char text[64];
     sprintf(text, "%d.%d.%d", SECURESTORE_VERSION_MAJOR, SECURESTORE_VERSION_MINOR, SECURESTORE_VERSION_PATCH);
     expect(strcmp(text, SECURESTORE_VERSION_STRING) == 0, "version: string and numbers agree");
-    expect(strcmp(SECURESTORE_VERSION_STRING, "0.5.0") == 0, "version: 0.5.0");
+    expect(strcmp(SECURESTORE_VERSION_STRING, "0.6.0") == 0, "version: 0.6.0");
 }
 
 static void test_aes(void)
@@ -391,6 +393,62 @@ static void test_keys(void)
            "get: key 42's file by its name");
 }
 
+/* Session 0x0807060504030201, three sends: muted; level 4; level 0.75 and pan minus zero. */
+static const uint8_t MIX[36] = {1, 2, 3, 4, 5, 6, 7, 8, 3, 0, 0, 0, 0, 0, 0, 0, 0, 0, 1, 0, 0, 0x80, 0x40, 0, 0, 0, 0, 2, 0, 0, 0x40, 0x3f, 0, 0, 0, 0x80};
+#define SESSION ((uint64_t)0x08070605 << 32 | 0x04030201)
+
+static void test_encode_mix(void)
+{
+    static const uint8_t tags[3] = {SECURESTORE_SEND_MUTED, SECURESTORE_SEND_LEVEL, SECURESTORE_SEND_LEVEL_PAN};
+    static const float levels[3] = {0.5f, 4.0f, 0.75f}, pans[3] = {0.5f, 2.0f, -0.0f};
+    uint8_t mix_buf[SECURESTORE_MIX_MAX];
+    size_t count = 99;
+    memset(mix_buf, 0xee, sizeof mix_buf);
+    expect(securestore_encode_mix(SESSION, tags, 3, levels, 3, pans, 3, mix_buf, sizeof mix_buf, &count) == SECURESTORE_OK, "encode_mix: status");
+    expect(count == sizeof MIX && memcmp(mix_buf, MIX, sizeof MIX) == 0 && mix_buf[sizeof MIX] == 0xee, "encode_mix: bytes");
+    expect(securestore_encode_mix(SESSION, tags, 3, levels, 3, pans, 3, mix_buf, sizeof mix_buf - 1, &count) == SECURESTORE_ERR_LENGTH && count == 0,
+           "encode_mix: mix buffer of 152");
+    count = 99;
+    expect(securestore_encode_mix(SESSION, tags + 2, 1, levels, 1, pans + 1, 1, mix_buf, sizeof mix_buf, &count) == SECURESTORE_ERR_INVALID_MIX && count == 0,
+           "encode_mix: pan 2");
+}
+
+static void test_decode_mix(void)
+{
+    uint8_t tags[16];
+    float levels[16], pans[16];
+    uint64_t session_id = 99;
+    size_t sends = 99;
+    expect(securestore_decode_mix(MIX, sizeof MIX, &session_id, tags, 16, levels, 16, pans, 16, &sends) == SECURESTORE_OK, "decode_mix: status");
+    expect(session_id == SESSION && sends == 3 && tags[0] == 0 && tags[1] == 1 && tags[2] == 2, "decode_mix: session, sends and tags");
+    expect(levels[0] == 0 && levels[1] == 4 && levels[2] == 0.75f && pans[0] == 0 && pans[1] == 0 && 0 == pans[2], "decode_mix: levels and pans");
+    expect(securestore_decode_mix(MIX, sizeof MIX - 1, &session_id, tags, 16, levels, 16, pans, 16, &sends) == SECURESTORE_ERR_INVALID_MIX,
+           "decode_mix: a byte less");
+    expect(session_id == 0 && sends == 0, "decode_mix: a refusal gives zeros");
+}
+
+/* The mix is a record like any other; tests/c/mix.c tries these calls through and through. */
+static void test_mix(void)
+{
+    static const uint8_t name[5] = {'m', 'i', 'x', '/', '1'};
+    uint8_t card[SECURESTORE_KV_SLOT_SIZE] = {0}, chip[SECURESTORE_RBP_SLOT_SIZE] = {0}, mix_buf[SECURESTORE_MIX_MAX];
+    size_t count = 99;
+    memset(mix_buf, 0xee, sizeof mix_buf);
+    expect(securestore_store_mix(card, sizeof card, chip, sizeof chip, KEY, sizeof KEY, name, sizeof name, 14, IV, sizeof IV, MIX, sizeof MIX) ==
+               SECURESTORE_OK,
+           "store_mix: status");
+    expect(securestore_find_mix(card, sizeof card, chip, sizeof chip, KEY, sizeof KEY, SESSION, mix_buf, sizeof mix_buf, &count) == SECURESTORE_OK,
+           "find_mix: status");
+    expect(count == sizeof MIX && memcmp(mix_buf, MIX, sizeof MIX) == 0 && mix_buf[sizeof MIX] == 0xee, "find_mix: bytes");
+    expect(securestore_find_mix(card, sizeof card, chip, sizeof chip, KEY, sizeof KEY, SESSION + 1, mix_buf, sizeof mix_buf, &count) ==
+                   SECURESTORE_ERR_NOT_FOUND &&
+               count == 0,
+           "find_mix: another session");
+    expect(securestore_get(card, sizeof card, chip, sizeof chip, KEY, sizeof KEY, name, sizeof name, 0, mix_buf, sizeof mix_buf, &count) == SECURESTORE_OK &&
+               count == sizeof MIX && memcmp(mix_buf, MIX, sizeof MIX) == 0,
+           "get: the mix by its name");
+}
+
 int main(void)
 {
     test_status_text();
@@ -412,6 +470,9 @@ int main(void)
     test_format_key_file();
     test_parse_key_file();
     test_keys();
+    test_encode_mix();
+    test_decode_mix();
+    test_mix();
     test_name_bytes();
     test_typed_names();
     printf("%u passed, %u failed\n", passed, failed);

@@ -1,4 +1,4 @@
-// The library that firmware links: the calls of the store and of the key files, and the ciphers, under C's calling convention.
+// The library that firmware links: the calls of the store, of the key files and of mixes, and the ciphers, under C's calling convention.
 //
 // A slice is a pointer and a length. The proofs assume of every lent slice and of every lent number what Rattle's own callers ensure, so a C caller must:
 // - pass no null pointer, also where the length is 0;
@@ -10,4 +10,5 @@
 pub mod cipher_calls;
 pub mod incremental_calls;
 pub mod key_calls;
+pub mod mix_calls;
 pub mod store_calls;
