@@ -7,7 +7,7 @@ use std::num::wrapping_add_usize;
 use text::decimal::parse_decimal;
 use text::parts::field;
 
-// Up to three numbers, and up to two runs of bytes, which stand one behind the other in a buffer beside it. Not `ok` is a line that cannot be read or carried
+// Up to three numbers, and up to three runs of bytes, which stand one behind the other in a buffer beside it. Not `ok` is a line that cannot be read or carried
 // out; `refused`, a call whose status, the first number, is not 0; `changed`, one that was refused and yet changed card or chip.
 pub struct Answer {
     pub ok: bool,
@@ -16,7 +16,7 @@ pub struct Answer {
     pub numbers: usize,
     pub values: [u64; 3],
     pub runs: usize,
-    pub counts: [usize; 2],
+    pub counts: [usize; 3],
 }
 
 impl Answer {
@@ -28,7 +28,7 @@ impl Answer {
             numbers,
             values: [a, b, c],
             runs: 0,
-            counts: [0; 2],
+            counts: [0; 3],
         }
     }
 
@@ -55,7 +55,7 @@ impl Answer {
     // With a run of bytes besides.
     pub fn and_bytes(self, count: usize) -> Self {
         let mut counts = self.counts;
-        counts[self.runs % 2] = count;
+        counts[self.runs % 3] = count;
         let mut more = self;
         more.runs = wrapping_add_usize(self.runs, 1);
         more.counts = counts;
@@ -72,10 +72,18 @@ fn number_matches(line: &[u8], k: usize, answer: Answer, i: usize) -> bool {
     expected.ok && expected.value == answer.values[i % 3]
 }
 
+// Where run i of the bytes begins.
+fn run_at(answer: Answer, i: usize) -> usize {
+    match i {
+        0 => 0,
+        1 => answer.counts[0],
+        _ => wrapping_add_usize(answer.counts[0], answer.counts[1]),
+    }
+}
+
 // Run i of the bytes.
 fn run(answer: Answer, i: usize, out: &[u8]) -> &[u8] {
-    let from = if i == 0 { 0 } else { answer.counts[0] };
-    span(out, from, answer.counts[i % 2])
+    span(out, run_at(answer, i), answer.counts[i % 3])
 }
 
 // Whether run i of the bytes, where there is one, stands in field k + i.
@@ -99,6 +107,7 @@ pub fn matches(line: &[u8], k: usize, fields: usize, answer: Answer, out: &[u8])
         && number_matches(line, k, answer, 2)
         && bytes_match(line, end, answer, 0, out)
         && bytes_match(line, end, answer, 1, out)
+        && bytes_match(line, end, answer, 2, out)
 }
 
 fn print_number(answer: Answer, i: usize) {
@@ -129,5 +138,6 @@ pub fn print_answer(answer: Answer, out: &[u8]) {
     print_number(answer, 2);
     print_run(answer, 0, out);
     print_run(answer, 1, out);
+    print_run(answer, 2, out);
     print::text(b"\n");
 }

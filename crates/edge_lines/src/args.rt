@@ -45,6 +45,15 @@ fn place_arg(s: &[u8], places: usize) -> Coded {
     }
 }
 
+// Floats have four bytes each.
+fn floats_arg(s: &[u8], out: &mut [u8]) -> Coded {
+    let read = read_bytes(s, out);
+    Coded {
+        ok: read.ok && read.count % 4 == 0,
+        count: read.count,
+    }
+}
+
 // The register of an argument's bytes: its own, but for those that have a place of their own.
 fn register(kind: u8, i: usize) -> usize {
     match kind {
@@ -65,6 +74,7 @@ fn read_arg(kind: u8, s: &[u8], i: usize, mem: &mut [u8]) -> Coded {
         b'u' => number_arg(s, 4294967295),
         b'p' => place_arg(s, 2),
         b'q' => place_arg(s, 4),
+        b'f' => floats_arg(s, memory::reg_mut(mem, register(kind, i))),
         b'x' | 0 => Coded { ok: true, count: 0 },
         _ => read_bytes(s, memory::reg_mut(mem, register(kind, i))),
     }

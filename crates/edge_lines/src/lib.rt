@@ -2,6 +2,7 @@
 pub mod answer;
 pub mod areas;
 pub mod args;
+pub mod floats;
 pub mod memory;
 pub mod print;
 pub mod state;

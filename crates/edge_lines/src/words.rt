@@ -3,9 +3,9 @@ use crate::areas::byte_at;
 use text::parts::part;
 
 // A word, `=` where it answers, and the kind of each argument. Bytes are `b`, or `k`, `i`, `a`, `h` and `s` for the device key, the IV, the attributes, the
-// handle and the staging buffer, and `z` for the name that is tried; a number is `n`, one of 32 bits `u`; card or chip `p`, any place `q`; the buffer that a
-// call is lent `o`; what the word reads itself `x`.
-const WORDS: [u8; 279] = *b"slots .nn;\
+// handle and the staging buffer, `f` for floats and `z` for the name that is tried; a number is `n`, one of 32 bits `u`; card or chip `p`, any place `q`; the
+// buffer that a call is lent `o`; what the word reads itself `x`.
+const WORDS: [u8; 339] = *b"slots .nn;\
     card .x;\
     chip .x;\
     key .k;\
@@ -30,13 +30,17 @@ const WORDS: [u8; 279] = *b"slots .nn;\
     start =bun;\
     add =b;\
     finalize =;\
+    store_mix =bub;\
+    find_mix =no;\
+    encode_mix =nbffo;\
+    decode_mix =b;\
     at =qn;\
     same =n;\
     fill =nub;\
     bits =pnnxz;\
     each =pnnnxz";
 
-const COUNT: usize = 30;
+const COUNT: usize = 34;
 
 pub enum Word {
     Slots,
@@ -64,6 +68,10 @@ pub enum Word {
     Start,
     Add,
     Finalize,
+    StoreMix,
+    FindMix,
+    EncodeMix,
+    DecodeMix,
     At,
     Same,
     Fill,
@@ -129,11 +137,15 @@ pub fn answering(index: usize) -> Word {
         22 => Word::Start,
         23 => Word::Add,
         24 => Word::Finalize,
-        25 => Word::At,
-        26 => Word::Same,
-        27 => Word::Fill,
-        28 => Word::Bits,
-        29 => Word::Each,
+        25 => Word::StoreMix,
+        26 => Word::FindMix,
+        27 => Word::EncodeMix,
+        28 => Word::DecodeMix,
+        29 => Word::At,
+        30 => Word::Same,
+        31 => Word::Fill,
+        32 => Word::Bits,
+        33 => Word::Each,
         _ => Word::Unknown,
     }
 }

@@ -97,6 +97,7 @@ fn write_status(
         Word::Remove => store::remove::remove(kv, rbp, reg(mem, 0, args.values[0])),
         Word::Save => save(args, env, mem, kv, rbp),
         Word::Finalize => finalize(env, mem, kv, rbp),
+        Word::StoreMix => edge_mixes::store(args, env, mem, kv, rbp),
         _ => store::reset::reset(kv, rbp),
     }
 }
@@ -172,6 +173,8 @@ fn read_answer(word: Word, args: Args, env: Env, mem: &[u8], lent: &mut [u8]) ->
         Word::Get => counted(get(args, env, mem, lent)),
         Word::Next => next(args, env, mem, lent),
         Word::Load => counted(load(args, env, mem, lent)),
+        Word::FindMix => counted(edge_mixes::find(args, env, mem, lent)),
+        Word::EncodeMix => counted(edge_mixes::encode(args, mem, lent)),
         _ => counted(keys::format::format_key_file(
             attributes(mem),
             reg(mem, 0, args.values[0]),
@@ -226,7 +229,11 @@ fn add(args: Args, env: Env, mem: &mut [u8]) -> Answer {
 fn call(word: Word, args: Args, env: Env, mem: &mut [u8]) -> Answer {
     match word {
         Word::Get | Word::Next => read_call(word, args, args.values[2], env, mem),
-        Word::Load | Word::Format => read_call(word, args, args.values[1], env, mem),
+        Word::Load | Word::Format | Word::FindMix => {
+            read_call(word, args, args.values[1], env, mem)
+        }
+        Word::EncodeMix => read_call(word, args, args.values[4], env, mem),
+        Word::DecodeMix => edge_mixes::decode(args, mem),
         Word::Info => info(args, env, mem),
         Word::Start => start(args, env, mem),
         Word::Add => add(args, env, mem),

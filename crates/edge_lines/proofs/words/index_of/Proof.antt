@@ -5,10 +5,10 @@ use Rattle.edge_lines.proofs.words.index_of.Statement.{statement}
 use Rattle.edge_lines.proofs.words.index_of.Tie as tie
 
 abbrev Inv-loop : tie.InvT-loop
-Inv-loop name words i₀ i = i ≤ 30
+Inv-loop name words i₀ i = i ≤ 34
 
 abbrev μ-loop : tie.MeasureT-loop
-μ-loop name words i₀ i = 30 - i
+μ-loop name words i₀ i = 34 - i
 
 loop-holds : tie.Need-loop-holds Inv-loop μ-loop
 loop-holds c = search needs
