@@ -10,12 +10,22 @@ pub enum Why {
     NameBufferLength,
     KeyBufferLength,
     StagingLength,
+    MixBufferLength,
+    /// Fewer entries than a decoded mix can have.
+    TagsLength,
+    LevelsLength,
+    PansLength,
+    /// Not as many levels, or pans, as tags.
+    LevelsDiffer,
+    PansDiffer,
     CardDamaged,
     ChipDamaged,
     BadName,
     BadPrefix,
     BadIdentifier,
     NameTooLong,
+    /// A mix may be kept only under a name with "mix/" in front.
+    NotAMixName,
     BadFlags,
     DataTooLong,
     DeclaredTooLong,
@@ -42,6 +52,16 @@ pub enum Why {
     HandleCount,
     ChunkPastDeclared,
     DataMissing,
+    /// Bytes over or missing.
+    MixLength,
+    MixCount,
+    MixTag,
+    MixLevel,
+    MixPan,
+    /// A byte that the tag doesn't use isn't zero.
+    MixUnused,
+    /// Two or more records hold the session.
+    Ambiguous,
 }
 
 impl Why {
@@ -50,9 +70,10 @@ impl Why {
         use Why::*;
         match self {
             CardLength | ChipLength | DeviceKeyLength | IvLength | NameBufferLength
-            | KeyBufferLength | StagingLength => 1,
+            | KeyBufferLength | StagingLength | MixBufferLength | TagsLength | LevelsLength
+            | PansLength | LevelsDiffer | PansDiffer => 1,
             CardDamaged | ChipDamaged => 2,
-            BadName | BadPrefix | BadIdentifier | NameTooLong => 3,
+            BadName | BadPrefix | BadIdentifier | NameTooLong | NotAMixName => 3,
             BadFlags => 4,
             DataTooLong | DeclaredTooLong => 5,
             NotFound => 6,
@@ -65,6 +86,8 @@ impl Why {
             MaterialTooLong | NotAKeyFile => 13,
             OffsetBeyondData => 14,
             HandleNameLength | HandleDeclared | HandleCount | ChunkPastDeclared | DataMissing => 19,
+            MixLength | MixCount | MixTag | MixLevel | MixPan | MixUnused => 20,
+            Ambiguous => 21,
         }
     }
 }
@@ -80,4 +103,7 @@ pub struct Answer {
     pub output: Vec<u8>,
     /// Empty for a call that writes none.
     pub handle: Vec<u8>,
+    /// Of a decoded mix, as bits; empty for any other call.
+    pub levels: Vec<u32>,
+    pub pans: Vec<u32>,
 }

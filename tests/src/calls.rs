@@ -13,6 +13,12 @@
 //! - Writing a key file and keeping one judge no type or policy number.
 //! - A walk whose start place lies beyond the card has no used place from there
 //!   on: 6. The place after the last one is a right answer.
+//! - Storing a mix gives 20, then 3 for a name without "mix/" in front, before 1, since
+//!   02 gives the order; the name "mix/" alone is as good as any.
+//! - A mix is looked for in the card's records alone: what only the chip holds under
+//!   such a name is no record, and is not tried.
+//! - A mix buffer longer than 153 bytes is right, and so are more than 16 entries for
+//!   a decoded mix's sends.
 
 use crate::aes::Block;
 use crate::answer::{Answer, Why};
@@ -20,6 +26,7 @@ use crate::area::{self, good_name, name_bytes, Card, Chip, Entry, Place, Slot};
 use crate::ctr::Iv;
 use crate::handle::{Handle, HandleBytes};
 use crate::keyfile::{key_name, Attributes, KeyFile};
+use crate::mix::{self, Mix, MIX_MAX, SENDS_MAX};
 use crate::record::{Flags, Record, DATA_MAX};
 
 /// A call with its arguments, without card and chip.
@@ -87,10 +94,37 @@ pub enum Call {
         handle: HandleBytes,
         staging: Vec<u8>,
     },
+    StoreMix {
+        key: Vec<u8>,
+        name: Vec<u8>,
+        flags: u32,
+        iv: Vec<u8>,
+        mix: Vec<u8>,
+    },
+    FindMix {
+        key: Vec<u8>,
+        session: u64,
+        mix_buffer: Vec<u8>,
+    },
+    /// Levels and pans as bits, so that each NaN can be told from each.
+    EncodeMix {
+        session: u64,
+        tags: Vec<u8>,
+        levels: Vec<u32>,
+        pans: Vec<u32>,
+        mix_buffer: Vec<u8>,
+    },
+    DecodeMix {
+        mix: Vec<u8>,
+        /// As lent: the front of each is written.
+        tags: Vec<u8>,
+        levels: Vec<u32>,
+        pans: Vec<u32>,
+    },
 }
 
 impl Call {
-    pub const KINDS: [&'static str; 12] = [
+    pub const KINDS: [&'static str; 16] = [
         "set",
         "get",
         "info",
@@ -103,9 +137,15 @@ impl Call {
         "set_start",
         "set_add_data",
         "set_finalize",
+        "store_mix",
+        "find_mix",
+        "encode_mix",
+        "decode_mix",
     ];
-    /// Its place among the kinds.
+    /// Their places among the kinds.
     pub const SET_FINALIZE: usize = 11;
+    pub const STORE_MIX: usize = 12;
+    pub const FIND_MIX: usize = 13;
 
     pub fn kind(&self) -> usize {
         match self {
@@ -121,6 +161,10 @@ impl Call {
             Call::SetStart { .. } => 9,
             Call::SetAddData { .. } => 10,
             Call::SetFinalize { .. } => Call::SET_FINALIZE,
+            Call::StoreMix { .. } => Call::STORE_MIX,
+            Call::FindMix { .. } => Call::FIND_MIX,
+            Call::EncodeMix { .. } => 14,
+            Call::DecodeMix { .. } => 15,
         }
     }
 
@@ -131,7 +175,17 @@ impl Call {
             Call::Walk { name_buffer, .. } => name_buffer,
             Call::WriteKeyFile { key_buffer, .. } | Call::LoadKey { key_buffer, .. } => key_buffer,
             Call::SetAddData { staging, .. } => staging,
+            Call::FindMix { mix_buffer, .. } | Call::EncodeMix { mix_buffer, .. } => mix_buffer,
+            Call::DecodeMix { tags, .. } => tags,
             _ => &[],
+        }
+    }
+
+    /// The levels and pans that the call may write.
+    pub fn floats(&self) -> [&[u32]; 2] {
+        match self {
+            Call::DecodeMix { levels, pans, .. } => [levels, pans],
+            _ => [&[], &[]],
         }
     }
 
@@ -149,7 +203,8 @@ impl Call {
             Call::Set { name, .. }
             | Call::Get { name, .. }
             | Call::Info { name, .. }
-            | Call::Remove { name } => Some(name.clone()),
+            | Call::Remove { name }
+            | Call::StoreMix { name, .. } => Some(name.clone()),
             Call::KeepKey { identifier, .. } | Call::LoadKey { identifier, .. } => {
                 key_name(*identifier)
             }
@@ -161,7 +216,9 @@ impl Call {
     /// The flags that the call sets its name with.
     pub fn flags(&self) -> Option<u32> {
         match self {
-            Call::Set { flags, .. } | Call::KeepKey { flags, .. } => Some(*flags),
+            Call::Set { flags, .. }
+            | Call::KeepKey { flags, .. }
+            | Call::StoreMix { flags, .. } => Some(*flags),
             Call::SetFinalize { handle, .. } => Some(Handle::decode(handle).flags),
             _ => None,
         }
@@ -183,6 +240,12 @@ impl Call {
             Call::SetStart { name, .. } => vec![name],
             Call::SetAddData { staging, chunk, .. } => vec![chunk, staging],
             Call::SetFinalize { staging, .. } => vec![staging],
+            Call::StoreMix { mix, .. } => vec![mix],
+            Call::FindMix { mix_buffer, .. } => vec![mix_buffer],
+            Call::EncodeMix {
+                tags, mix_buffer, ..
+            } => vec![tags, mix_buffer],
+            Call::DecodeMix { mix, tags, .. } => vec![mix, tags],
             Call::Info { .. } | Call::Remove { .. } | Call::Reset => Vec::new(),
         }
     }
@@ -196,6 +259,7 @@ struct Done {
     chip: Option<Vec<u8>>,
     output: Option<Vec<u8>>,
     handle: Option<Vec<u8>>,
+    floats: Option<[Vec<u32>; 2]>,
 }
 
 type Outcome = Result<Done, Why>;
@@ -206,6 +270,9 @@ pub fn answer(card: &[u8], chip: &[u8], call: &Call) -> (Answer, Option<Why>) {
         Ok(done) => (done, None),
         Err(why) => (refused(call), Some(why)),
     };
+    let [levels, pans] = done
+        .floats
+        .unwrap_or_else(|| call.floats().map(<[u32]>::to_vec));
     let answer = Answer {
         number: why.map_or(0, Why::number),
         returned: done.returned,
@@ -213,6 +280,8 @@ pub fn answer(card: &[u8], chip: &[u8], call: &Call) -> (Answer, Option<Why>) {
         chip: done.chip.unwrap_or_else(|| chip.to_vec()),
         output: done.output.unwrap_or_else(|| call.output().to_vec()),
         handle: done.handle.unwrap_or_else(|| call.handle().to_vec()),
+        levels,
+        pans,
     };
     (answer, why)
 }
@@ -289,6 +358,35 @@ fn run(card: &[u8], chip: &[u8], call: &Call) -> Outcome {
             handle,
             staging,
         } => set_finalize(card, chip, key, &Handle::decode(handle), staging),
+        Call::StoreMix {
+            key,
+            name,
+            flags,
+            iv,
+            mix,
+        } => {
+            Mix::decode(mix)?;
+            check(name.starts_with(mix::PREFIX), Why::NotAMixName)?;
+            set(card, chip, key, Some(name), *flags, iv, mix)
+        }
+        Call::FindMix {
+            key,
+            session,
+            mix_buffer,
+        } => find_mix(card, chip, key, *session, mix_buffer),
+        Call::EncodeMix {
+            session,
+            tags,
+            levels,
+            pans,
+            mix_buffer,
+        } => encode_mix(*session, tags, levels, pans, mix_buffer),
+        Call::DecodeMix {
+            mix,
+            tags,
+            levels,
+            pans,
+        } => decode_mix(mix, tags, levels, pans),
     }
 }
 
@@ -368,7 +466,7 @@ fn may_follow(place: Option<&Place>, entry: Option<&Entry>, flags: Flags) -> Res
 }
 
 /// The record that a get may read: all its tests but the offset's.
-fn readable(card: &Card, chip: &Chip, key: &Block, name: &[u8]) -> Result<Record, Why> {
+pub fn readable(card: &Card, chip: &Chip, key: &Block, name: &[u8]) -> Result<Record, Why> {
     let entry = chip.find(name);
     let place = match card.find(name) {
         Some(place) => place,
@@ -406,7 +504,7 @@ fn get(card: &[u8], chip: &[u8], key: &[u8], name: &[u8], offset: usize, output:
 }
 
 /// The buffer with these bytes at its front, the rest as before.
-pub fn with_front(buffer: &[u8], front: &[u8]) -> Vec<u8> {
+pub fn with_front<T: Clone>(buffer: &[T], front: &[T]) -> Vec<T> {
     [front, &buffer[front.len()..]].concat()
 }
 
@@ -468,7 +566,7 @@ fn walk(card: &[u8], chip: &[u8], prefix: &[u8], start: usize, name_buffer: &[u8
 fn write_key_file(attributes: Attributes, material: &[u8], key_buffer: &[u8]) -> Outcome {
     check(key_buffer.len() >= DATA_MAX, Why::KeyBufferLength)?;
     let file = KeyFile::new(attributes, material).ok_or(Why::MaterialTooLong)?;
-    Ok(file_at_front(key_buffer, &file.encode()))
+    Ok(at_front(key_buffer, &file.encode()))
 }
 
 fn load_key(card: &[u8], chip: &[u8], key: &[u8], identifier: u32, key_buffer: &[u8]) -> Outcome {
@@ -479,13 +577,14 @@ fn load_key(card: &[u8], chip: &[u8], key: &[u8], identifier: u32, key_buffer: &
     let name = key_name(identifier).ok_or(Why::BadIdentifier)?;
     let file = readable(&card, &chip, &key, &name)?.data(&key, &name);
     KeyFile::decode(&file).ok_or(Why::NotAKeyFile)?;
-    Ok(file_at_front(key_buffer, &file))
+    Ok(at_front(key_buffer, &file))
 }
 
-fn file_at_front(key_buffer: &[u8], file: &[u8]) -> Done {
+/// A key file or a mix at the buffer's front, and its length.
+fn at_front(buffer: &[u8], bytes: &[u8]) -> Done {
     Done {
-        returned: [file.len() as u64, 0],
-        output: Some(with_front(key_buffer, file)),
+        returned: [bytes.len() as u64, 0],
+        output: Some(with_front(buffer, bytes)),
         ..Done::default()
     }
 }
@@ -514,6 +613,67 @@ fn set_finalize(card: &[u8], chip: &[u8], key: &[u8], handle: &Handle, staging: 
     let data = handle.whole(staging)?;
     let name = Some(handle.name());
     set(card, chip, key, name, handle.flags, &handle.iv, data)
+}
+
+/// Every record named "mix/..." is tried, in the order of the places, before it is asked
+/// which of them hold the session.
+fn find_mix(card: &[u8], chip: &[u8], key: &[u8], session: u64, mix_buffer: &[u8]) -> Outcome {
+    area::test_lengths(card, chip)?;
+    let key = device_key(key)?;
+    check(mix_buffer.len() >= MIX_MAX, Why::MixBufferLength)?;
+    let (card, chip) = area::decode(card, chip)?;
+    let mut mixes = Vec::new();
+    for (_, Place { name, .. }) in card.used() {
+        if name.starts_with(mix::PREFIX) {
+            let bytes = readable(&card, &chip, &key, name)?.data(&key, name);
+            mixes.push(Mix::decode(&bytes)?);
+        }
+    }
+    let holds = |mix: &&Mix| mix.session == session;
+    let found: Vec<&Mix> = mixes.iter().filter(holds).collect();
+    match found[..] {
+        [] => Err(Why::NotFound),
+        [mix] => Ok(at_front(mix_buffer, &mix.encode())),
+        _ => Err(Why::Ambiguous),
+    }
+}
+
+fn encode_mix(
+    session: u64,
+    tags: &[u8],
+    levels: &[u32],
+    pans: &[u32],
+    mix_buffer: &[u8],
+) -> Outcome {
+    check(mix_buffer.len() >= MIX_MAX, Why::MixBufferLength)?;
+    check(levels.len() == tags.len(), Why::LevelsDiffer)?;
+    check(pans.len() == tags.len(), Why::PansDiffer)?;
+    let send = |at: usize| {
+        let (level, pan) = (f32::from_bits(levels[at]), f32::from_bits(pans[at]));
+        (tags[at], level, pan)
+    };
+    let sends: Vec<(u8, f32, f32)> = (0..tags.len()).map(send).collect();
+    Ok(at_front(mix_buffer, &Mix::new(session, &sends)?.encode()))
+}
+
+fn decode_mix(bytes: &[u8], tags: &[u8], levels: &[u32], pans: &[u32]) -> Outcome {
+    check(tags.len() >= SENDS_MAX, Why::TagsLength)?;
+    check(levels.len() >= SENDS_MAX, Why::LevelsLength)?;
+    check(pans.len() >= SENDS_MAX, Why::PansLength)?;
+    let Mix { session, sends } = Mix::decode(bytes)?;
+    let sent = |part: fn(mix::Send) -> u32| sends.iter().map(move |send| part(*send));
+    let tags_sent: Vec<u8> = sends.iter().map(|send| send.tag()).collect();
+    let levels_sent: Vec<u32> = sent(mix::Send::level).collect();
+    let pans_sent: Vec<u32> = sent(mix::Send::pan).collect();
+    Ok(Done {
+        returned: [session, sends.len() as u64],
+        output: Some(with_front(tags, &tags_sent)),
+        floats: Some([
+            with_front(levels, &levels_sent),
+            with_front(pans, &pans_sent),
+        ]),
+        ..Done::default()
+    })
 }
 
 #[cfg(test)]

@@ -5,6 +5,7 @@ use crate::aes::Block;
 use crate::area::{Card, Chip, Entry, Place, NAME_MAX};
 use crate::handle::{Handle, STAGING};
 use crate::keyfile::{key_name, Attributes, KeyFile};
+use crate::mixing;
 use crate::record::{Flags, Record, DATA_MAX, RECORD_MAX};
 use crate::rng::Rng;
 
@@ -24,6 +25,8 @@ pub struct Cast {
     pub other_key: [u8; 16],
     pub names: Vec<Vec<u8>>,
     pub identifiers: Vec<u32>,
+    /// Of mixes; none where the calls turn about none.
+    pub sessions: Vec<u64>,
 }
 
 impl Cast {
@@ -52,11 +55,30 @@ impl Cast {
             other_key: rng.array(),
             names,
             identifiers,
+            sessions: Vec::new(),
         }
+    }
+
+    /// The same with names of mixes in place of all but one, and with few sessions.
+    pub fn about_mixes(mut self, rng: &mut Rng) -> Cast {
+        self.names.truncate(1);
+        self.names.extend(mixing::names(rng));
+        let mut cast = self.with_mixes(rng);
+        cast.sessions.truncate(1 + rng.below(2));
+        cast
+    }
+
+    /// The same with names and sessions of mixes.
+    pub fn with_mixes(mut self, rng: &mut Rng) -> Cast {
+        self.sessions = mixing::sessions(rng);
+        self.names.extend(mixing::names(rng));
+        self.names.sort();
+        self.names.dedup();
+        self
     }
 }
 
-fn good_bytes(rng: &mut Rng, length: usize) -> Vec<u8> {
+pub fn good_bytes(rng: &mut Rng, length: usize) -> Vec<u8> {
     let mut byte = || match rng.below(0x5f + 0x80) as u8 {
         low @ 0..=0x5e => 0x20 + low,
         high => 0x80 + (high - 0x5f),
@@ -124,12 +146,25 @@ pub fn key_file(rng: &mut Rng, sound: bool) -> Vec<u8> {
     file
 }
 
+/// A mix's bytes, or ones that are wrong in one way of 02.
+pub fn mix(rng: &mut Rng, cast: &Cast, sound: bool) -> Vec<u8> {
+    let mix = mixing::mix(rng, &cast.sessions);
+    if sound {
+        mix.encode()
+    } else {
+        mixing::wrong(rng, mix)
+    }
+}
+
 /// A record for this name, as a set makes it.
 pub fn sealed(rng: &mut Rng, cast: &Cast, key: &Block, name: &[u8], flags: u32) -> Record {
     let flags = Flags::accept(flags).expect("good flags");
     let content = if key_like(cast, name) && rng.percent(80) {
         let sound = rng.percent(70);
         key_file(rng, sound)
+    } else if mixing::mix_like(name) && rng.percent(95) {
+        let sound = rng.percent(90);
+        mix(rng, cast, sound)
     } else {
         data(rng)
     };
@@ -301,12 +336,27 @@ pub fn sound_start(rng: &mut Rng, cast: &Cast, places: usize, entries: usize) ->
     (card, chip)
 }
 
+/// A sound one of any session, which the chip isn't asked for: of very many records one
+/// that is refused would decide every search.
+fn filler_mix(rng: &mut Rng, cast: &Cast, name: &[u8]) -> Vec<u8> {
+    let flags = Flags::accept(rng.pick(&[0, 2, 4, 6])).expect("good flags");
+    let mix = mixing::mix(rng, &[]).encode();
+    Record::seal(&cast.key, name, flags, &rng.array(), &mix).encode()
+}
+
 /// Uses up the free places and entries, all or all but one.
 pub fn fill(rng: &mut Rng, cast: &Cast, card: &mut Card, chip: &mut Chip) {
     let left = rng.below(2);
+    // Where there are mixes at all, a card may be full of them.
+    let mixes = !cast.sessions.is_empty() && rng.percent(50);
+    let front = if mixes { "mix/filler-" } else { "filler-" };
     for number in left..card.slots.iter().filter(|slot| slot.is_none()).count() {
-        let name = format!("filler-{number}").into_bytes();
-        let record = record(rng, cast, &name);
+        let name = format!("{front}{number}").into_bytes();
+        let record = if mixes {
+            filler_mix(rng, cast, &name)
+        } else {
+            record(rng, cast, &name)
+        };
         card.put(Place { name, record });
     }
     for number in left..chip.slots.iter().filter(|slot| slot.is_none()).count() {

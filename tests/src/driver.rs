@@ -6,12 +6,14 @@ use std::thread;
 use reference::calls::Call;
 use reference::cards::World;
 use reference::ciphers::{self, Checked};
+use reference::floats::Accepted;
 use reference::library::Library;
 use reference::rng::Rng;
 use reference::stories;
 use reference::tally::Tally;
 use reference::{
-    cards, divisions, downgrades, edges, generator, handles, lists, names, orders, parsing, tags,
+    cards, divisions, downgrades, edges, floats, generator, handles, lists, mixes, names, orders,
+    parsing, tags,
 };
 
 use crate::{long, openssl};
@@ -28,6 +30,8 @@ pub struct Options {
     pub cards: u64,
     /// Where the files of edges are.
     pub edges: PathBuf,
+    /// Only the rules of levels and pans, on all patterns.
+    pub all_floats: bool,
 }
 
 /// Counts of named checks.
@@ -78,6 +82,8 @@ pub fn run(library: &dyn Library, options: &Options) -> Score {
     score.check_all(handles::checks(library));
     score.check_all(tags::checks(library, options.seed));
     score.check_all(downgrades::checks(library, options.seed));
+    score.check_all(mixes::checks(library));
+    score.check_all(floats::checks(library, options.seed));
     match long::check() {
         Some(checked) => score.check("lengths-past-32-bits", checked),
         None => println!("skipped lengths-past-32-bits: no room for them"),
@@ -86,6 +92,32 @@ pub fn run(library: &dyn Library, options: &Options) -> Score {
     run_divisions(library, options, &mut score);
     run_stories(library, options, &mut score);
     run_lists(library, options, &mut score);
+    score
+}
+
+/// The two rules of levels and pans on all patterns, some on each thread.
+pub fn all_floats() -> Score {
+    let part = |first: u64| {
+        floats::agree(
+            (first..1 << 32)
+                .step_by(THREADS as usize)
+                .map(|bits| bits as u32),
+        )
+    };
+    let parts: Vec<_> = thread::scope(|scope| {
+        let parts: Vec<_> = (0..THREADS)
+            .map(|first| scope.spawn(move || part(first)))
+            .collect();
+        let joined = parts
+            .into_iter()
+            .map(|part| part.join().expect("no part panics"));
+        joined.collect()
+    });
+    let all = parts
+        .into_iter()
+        .try_fold(Accepted::default(), |all, part| Ok(all.and(part?)));
+    let mut score = Score::default();
+    score.check("all-floats", all.and_then(Accepted::whole));
     score
 }
 
@@ -204,6 +236,8 @@ fn run_stories(library: &dyn Library, options: &Options, score: &mut Score) {
         tally.met_table()
     );
     score.check("stories-downgrades", coverage(&tally.met_gaps()));
+    println!("searches for a mix in the stories:\n{}", tally.searched());
+    score.check("stories-searches", coverage(&tally.searched_gaps()));
 }
 
 fn run_lists(library: &dyn Library, options: &Options, score: &mut Score) {

@@ -140,21 +140,37 @@ mod tests {
         (0..fields.len()).map(alter).collect()
     }
 
+    /// Each altered line is tried where it stands; for some the whole file is run again.
     #[test]
     fn every_expected_value_counts() {
         for path in files(Path::new(FOLDER)).expect("files") {
             let text = fs::read_to_string(path).expect("readable");
             let lines: Vec<&str> = text.lines().collect();
+            let mut bench = Bench::new(&Reference);
             for (at, line) in lines.iter().enumerate() {
-                for other in altered(line) {
-                    let mut lines = lines.clone();
-                    lines[at] = &other;
-                    let why = told(&lines.join("\n")).expect_err(&other);
-                    assert!(why.starts_with("1 of "), "{why}");
-                    assert!(why.contains(&format!("f.tsv:{}: {other}", at + 1)), "{why}");
+                if line.is_empty() || line.starts_with('#') {
+                    continue;
                 }
+                for other in altered(line) {
+                    assert!(bench.clone().line(other.as_bytes()).is_err(), "{other}");
+                    if at % RUN_AGAIN == 0 {
+                        told_alone(&lines, at, &other);
+                    }
+                }
+                bench.line(line.as_bytes()).expect(line);
             }
         }
+    }
+
+    const RUN_AGAIN: usize = 40;
+
+    /// In the whole file just this line is told.
+    fn told_alone(lines: &[&str], at: usize, other: &str) {
+        let mut lines = lines.to_vec();
+        lines[at] = other;
+        let why = told(&lines.join("\n")).expect_err(other);
+        assert!(why.starts_with("1 of "), "{why}");
+        assert!(why.contains(&format!("f.tsv:{}: {other}", at + 1)), "{why}");
     }
 
     fn told(text: &str) -> Checked {
@@ -190,7 +206,7 @@ mod tests {
     }
 
     /// Lines of each word with something wrong in them.
-    const WRONG: [&str; 53] = [
+    const WRONG: [&str; 69] = [
         "slots\t66\t1",
         "slots\t1",
         "slots\t1\t1\t1",
@@ -244,6 +260,22 @@ mod tests {
         "each\tcard\t584\t1\t2\tget\t\"a\"\t=\t2",
         "each\tcard\t0\t2\t1\tget\t\"a\"\t=\t2",
         "each\tcard\t0\t0\t256\tget\t\"a\"\t=\t2",
+        "store_mix\t\"mix/a\"\t0\t=\t20",
+        "store_mix\t\"mix/a\"\t4294967296\t-\t=\t20",
+        "store_mix\t\"mix/a\"\t0\t-\t=\t20\t0",
+        "store_mix\t\"mix/a\"\t0\t-\t=",
+        "find_mix\t18446744073709551616\t00*153\t=\t6\t0\t00*153",
+        "find_mix\t0\t=\t6\t0",
+        "find_mix\t0\t00*153\t=\t6\t0",
+        "find_mix\t0\t00*153\t=\t6\t00*153",
+        "find_mix\t0\t00*153\t=\t6\t0\t00*152",
+        "encode_mix\t18446744073709551616\t-\t-\t-\t00*153\t=\t0\t9\t00*153",
+        "encode_mix\t0\t01\t00*3\t00*4\t00*153\t=\t1\t0\t00*153",
+        "encode_mix\t0\t01\t00*4\t00*5\t00*153\t=\t1\t0\t00*153",
+        "encode_mix\t0\t-\t-\t-\t00*153\t=\t0\t9",
+        "decode_mix\t00*9\t-\t=\t0\t0\t-\t-\t-",
+        "decode_mix\t00*9\t=\t0\t0\t-\t-",
+        "decode_mix\t00*9\t=\t0\t0\t0\t-\t-\t-",
     ];
 
     #[test]
@@ -277,6 +309,51 @@ mod tests {
             assert!(why.starts_with("4 of 4 lines differ"), "{why}");
         }
     }
+
+    /// Lines of each word for mixes, as they have to be.
+    const MIXES: [&str; 10] = [
+        "# a group",
+        "slots\t1\t1",
+        "encode_mix\t258\t0201\t00008040 00000080\t000080bf 0000c07f\tee*154\t=\t0\t27\t\
+         0201 00*6 02 02 00008040 000080bf 01 00000080 00*4 ee*127",
+        "encode_mix\t18446744073709551615\t01\t01008040\t00*4\tee*153\t=\t20\t0\tee*153",
+        "store_mix\t\"mix/a\"\t14\t0201 00*6 01 01 00000080 00*4\t=\t0",
+        "store_mix\t\"mix/b\"\t0\t00*9\t=\t10",
+        "find_mix\t258\tee*154\t=\t0\t18\t0201 00*6 01 01 00000080 00*4 ee*136",
+        "find_mix\t18446744073709551615\tee*153\t=\t6\t0\tee*153",
+        "decode_mix\t0201 00*6 01 01 00000080 00*4\t=\t0\t258\t01\t00000080\t00*4",
+        "decode_mix\t0201 00*6 00 00\t=\t20\t0\t-\t-\t-",
+    ];
+
+    #[test]
+    fn lines_of_mixes_are_carried_out_and_told() {
+        assert_eq!(told(&MIXES.join("\n")), Ok("8 lines in 1 groups".into()));
+        for (at, line) in MIXES.iter().enumerate() {
+            for other in altered(line) {
+                let mut lines = MIXES;
+                lines[at] = &other;
+                let why = told(&lines.join("\n")).expect_err(&other);
+                assert!(why.starts_with("1 of 8 lines differ"), "{why}");
+            }
+        }
+        let faults: [fn(&mut Observed); 5] = [
+            |observed| observed.answer.output[15] = 0,
+            |observed| observed.answer.levels[15] = 0,
+            |observed| observed.answer.pans[15] = 0,
+            |observed| observed.answer.returned[1] = 17,
+            |observed| observed.answer.card[0] ^= 1,
+        ];
+        for fault in faults {
+            let faulty = Faulty(|call: &Call, observed: &mut Observed| {
+                if let Call::DecodeMix { .. } = call {
+                    fault(observed);
+                }
+            });
+            let why = run(&faulty, "f.tsv", MIXES.join("\n").as_bytes()).unwrap_err();
+            assert!(why.starts_with("2 of 8 lines differ"), "{why}");
+        }
+    }
+
     #[test]
     fn a_handle_or_staging_buffer_that_differs_is_told() {
         let lines = [

@@ -1,7 +1,8 @@
 //! The product's static library, called with guarded copies of every buffer.
 
+use std::mem::{align_of, size_of};
 use std::ops::Range;
-use std::os::raw::c_uchar;
+use std::os::raw::{c_float, c_uchar};
 
 use reference::aes::Block;
 use reference::answer::Answer;
@@ -170,6 +171,57 @@ extern "C" {
         staging: Bytes,
         staging_len: usize,
     ) -> u32;
+    pub fn securestore_store_mix(
+        kv: BytesMut,
+        kv_len: usize,
+        rbp: BytesMut,
+        rbp_len: usize,
+        key: Bytes,
+        key_len: usize,
+        name: Bytes,
+        name_len: usize,
+        flags: u32,
+        iv: Bytes,
+        iv_len: usize,
+        mix: Bytes,
+        mix_len: usize,
+    ) -> u32;
+    pub fn securestore_find_mix(
+        kv: Bytes,
+        kv_len: usize,
+        rbp: Bytes,
+        rbp_len: usize,
+        key: Bytes,
+        key_len: usize,
+        session_id: u64,
+        mix_buf: BytesMut,
+        mix_buf_len: usize,
+        count: *mut usize,
+    ) -> u32;
+    pub fn securestore_encode_mix(
+        session_id: u64,
+        tags: Bytes,
+        tags_len: usize,
+        levels: *const c_float,
+        levels_len: usize,
+        pans: *const c_float,
+        pans_len: usize,
+        mix_buf: BytesMut,
+        mix_buf_len: usize,
+        count: *mut usize,
+    ) -> u32;
+    pub fn securestore_decode_mix(
+        mix: Bytes,
+        mix_len: usize,
+        session_id: *mut u64,
+        tags: BytesMut,
+        tags_len: usize,
+        levels: *mut c_float,
+        levels_len: usize,
+        pans: *mut c_float,
+        pans_len: usize,
+        sends: *mut usize,
+    ) -> u32;
 }
 
 const GUARD: usize = 64;
@@ -185,11 +237,25 @@ struct Lent {
 
 impl Lent {
     fn new(what: &'static str, content: &[u8]) -> Lent {
-        // Firmware's buffers start at any address. The content decides, so that
-        // a repeated call is lent the same.
+        Lent::aligned(what, content, 1)
+    }
+
+    /// Floats, given as bits: they pass through no float here.
+    fn floats(what: &'static str, bits: &[u32]) -> Lent {
+        let content: Vec<u8> = bits.iter().flat_map(|bits| bits.to_ne_bytes()).collect();
+        Lent::aligned(what, &content, align_of::<c_float>())
+    }
+
+    fn aligned(what: &'static str, content: &[u8], align: usize) -> Lent {
+        // Firmware's buffers start at any address that suits their type. The content
+        // decides, so that a repeated call is lent the same.
         let sum: usize = content.iter().map(|byte| usize::from(*byte)).sum();
         let front = GUARD + (sum + content.len()) % 16;
-        let mut bytes = vec![0xa5; front];
+        // All the room is taken at once: the bytes stay where they are.
+        let mut bytes = Vec::with_capacity(front + align + content.len() + GUARD);
+        let start = bytes.as_ptr() as usize + front;
+        let front = front + (align - start % align) % align;
+        bytes.resize(front, 0xa5);
         bytes.extend(content);
         bytes.extend([0x5a; GUARD]);
         Lent {
@@ -218,6 +284,15 @@ impl Lent {
 
     fn content(&self) -> &[u8] {
         &self.bytes[self.place()]
+    }
+
+    fn floats_ptr(&mut self) -> (*mut c_float, usize) {
+        (self.ptr_mut().cast(), self.len() / size_of::<c_float>())
+    }
+
+    fn float_bits(&self) -> Vec<u32> {
+        let four = |bytes: &[u8]| u32::from_ne_bytes(bytes.try_into().expect("four bytes"));
+        self.content().chunks_exact(4).map(four).collect()
     }
 
     /// A write outside the buffer.
@@ -257,6 +332,12 @@ impl Number<u32> {
     }
 }
 
+impl Number<u64> {
+    fn new() -> Self {
+        Number([UNWRITTEN as u64; 3])
+    }
+}
+
 impl<T> Number<T> {
     fn ptr(&mut self) -> *mut T {
         &mut self.0[1]
@@ -281,6 +362,8 @@ impl Library for Product {
             chip: Lent::new("chip", chip),
             output: Lent::new("output", call.output()),
             handle: Lent::new("handle", call.handle()),
+            levels: Lent::floats("levels", call.floats()[0]),
+            pans: Lent::floats("pans", call.floats()[1]),
             read_only: Vec::new(),
             returned: [0; 2],
             strays: Vec::new(),
@@ -394,6 +477,8 @@ struct Lending {
     chip: Lent,
     output: Lent,
     handle: Lent,
+    levels: Lent,
+    pans: Lent,
     read_only: Vec<Lent>,
     returned: [u64; 2],
     strays: Vec<String>,
@@ -401,8 +486,9 @@ struct Lending {
 
 impl Lending {
     fn observe(mut self, number: u32) -> Observed {
-        let writable = [&self.card, &self.chip, &self.output, &self.handle];
-        let overruns = writable.into_iter().filter_map(Lent::overrun);
+        let bytes = [&self.card, &self.chip, &self.output, &self.handle];
+        let writable = bytes.into_iter().chain([&self.levels, &self.pans]);
+        let overruns = writable.filter_map(Lent::overrun);
         let written = self.read_only.iter().filter_map(Lent::written);
         self.strays.extend(overruns.chain(written));
         Observed {
@@ -413,6 +499,8 @@ impl Lending {
                 chip: self.chip.content().to_vec(),
                 output: self.output.content().to_vec(),
                 handle: self.handle.content().to_vec(),
+                levels: self.levels.float_bits(),
+                pans: self.pans.float_bits(),
             },
             strays: self.strays,
         }
@@ -422,6 +510,14 @@ impl Lending {
     fn read(&mut self, what: &'static str, content: &[u8]) -> (Bytes, usize) {
         let lent = Lent::new(what, content);
         let place = (lent.ptr(), lent.len());
+        self.read_only.push(lent);
+        place
+    }
+
+    /// The same for floats.
+    fn read_floats(&mut self, what: &'static str, bits: &[u32]) -> (*const c_float, usize) {
+        let lent = Lent::floats(what, bits);
+        let place = (lent.ptr().cast(), bits.len());
         self.read_only.push(lent);
         place
     }
@@ -476,6 +572,22 @@ impl Lending {
                 handle,
                 staging,
             } => self.set_finalize(key, handle, staging),
+            Call::StoreMix {
+                key,
+                name,
+                flags,
+                iv,
+                mix,
+            } => self.store_mix(key, name, *flags, iv, mix),
+            Call::FindMix { key, session, .. } => self.find_mix(key, *session),
+            Call::EncodeMix {
+                session,
+                tags,
+                levels,
+                pans,
+                ..
+            } => self.encode_mix(*session, tags, levels, pans),
+            Call::DecodeMix { mix, .. } => self.decode_mix(mix),
         }
     }
 }
@@ -695,5 +807,90 @@ impl Lending {
                 staging_len,
             )
         }
+    }
+
+    fn store_mix(&mut self, key: &[u8], name: &[u8], flags: u32, iv: &[u8], mix: &[u8]) -> u32 {
+        let [(kv, kv_len), (rbp, rbp_len), _] = self.areas();
+        let (key, key_len) = self.read("device key", key);
+        let (name, name_len) = self.read("name", name);
+        let (iv, iv_len) = self.read("IV", iv);
+        let (mix, mix_len) = self.read("mix", mix);
+        unsafe {
+            securestore_store_mix(
+                kv, kv_len, rbp, rbp_len, key, key_len, name, name_len, flags, iv, iv_len, mix,
+                mix_len,
+            )
+        }
+    }
+
+    fn find_mix(&mut self, key: &[u8], session: u64) -> u32 {
+        let [(kv, kv_len), (rbp, rbp_len), (out, out_len)] = self.areas();
+        let (key, key_len) = self.read("device key", key);
+        let mut count = Number::<usize>::new();
+        let number = unsafe {
+            securestore_find_mix(
+                kv,
+                kv_len,
+                rbp,
+                rbp_len,
+                key,
+                key_len,
+                session,
+                out,
+                out_len,
+                count.ptr(),
+            )
+        };
+        self.returned[0] = count.value(UNWRITTEN, &mut self.strays);
+        number
+    }
+
+    fn encode_mix(&mut self, session: u64, tags: &[u8], levels: &[u32], pans: &[u32]) -> u32 {
+        let [_, _, (out, out_len)] = self.areas();
+        let (tags, tags_len) = self.read("tags", tags);
+        let (levels, levels_len) = self.read_floats("levels", levels);
+        let (pans, pans_len) = self.read_floats("pans", pans);
+        let mut count = Number::<usize>::new();
+        let number = unsafe {
+            securestore_encode_mix(
+                session,
+                tags,
+                tags_len,
+                levels,
+                levels_len,
+                pans,
+                pans_len,
+                out,
+                out_len,
+                count.ptr(),
+            )
+        };
+        self.returned[0] = count.value(UNWRITTEN, &mut self.strays);
+        number
+    }
+
+    fn decode_mix(&mut self, mix: &[u8]) -> u32 {
+        let [_, _, (tags, tags_len)] = self.areas();
+        let (levels, levels_len) = self.levels.floats_ptr();
+        let (pans, pans_len) = self.pans.floats_ptr();
+        let (mix, mix_len) = self.read("mix", mix);
+        let (mut session, mut sends) = (Number::<u64>::new(), Number::<usize>::new());
+        let number = unsafe {
+            securestore_decode_mix(
+                mix,
+                mix_len,
+                session.ptr(),
+                tags,
+                tags_len,
+                levels,
+                levels_len,
+                pans,
+                pans_len,
+                sends.ptr(),
+            )
+        };
+        self.returned[0] = session.value(UNWRITTEN as u64, &mut self.strays);
+        self.returned[1] = sends.value(UNWRITTEN, &mut self.strays);
+        number
     }
 }

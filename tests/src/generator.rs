@@ -9,6 +9,8 @@ use crate::calls::{answer, Call};
 use crate::cast::{self, Cast, GOOD_IDENTIFIERS};
 use crate::handle::{Handle, HandleBytes, STAGING};
 use crate::keyfile::key_name;
+use crate::mix::{self, SENDS_MAX};
+use crate::mixing;
 use crate::record::Record;
 use crate::rng::Rng;
 use crate::tamper::Tamperer;
@@ -64,6 +66,8 @@ impl From<SetArguments> for Call {
 struct Teller {
     rng: Rng,
     cast: Cast,
+    /// Half of its calls store a mix or look for one.
+    about_mixes: bool,
     card: Vec<u8>,
     chip: Vec<u8>,
     /// Card and chip before each step.
@@ -76,15 +80,27 @@ struct Teller {
 
 /// A story of 10 to 40 steps.
 pub fn story(mut rng: Rng) -> Story {
+    let about_mixes = rng.percent(25);
     let cast = Cast::new(&mut rng);
+    let cast = if about_mixes {
+        cast.about_mixes(&mut rng)
+    } else {
+        cast.with_mixes(&mut rng)
+    };
     let places = rng.pick(&[1, 1, 1, 2, 2, 2, 3, 3, 4, 5, 8]);
     let entries = rng.pick(&[1, 1, 1, 2, 2, 3, 4, 6]);
     let (places, entries) = match rng.below(50) {
         0 => (64, 64),
         1 => (places, 64),
+        _ if about_mixes => (2 + rng.below(7), 2 + rng.below(5)),
         _ => (places, entries),
     };
-    let (mut card, mut chip) = cast::sound_start(&mut rng, &cast, places, entries);
+    // Many records of a start are bad in some way, and one bad mix decides a search.
+    let (mut card, mut chip) = if about_mixes && rng.percent(70) {
+        (Card::free(places), Chip::free(entries))
+    } else {
+        cast::sound_start(&mut rng, &cast, places, entries)
+    };
     if places == 64 && rng.percent(50) {
         cast::fill(&mut rng, &cast, &mut card, &mut chip);
     }
@@ -92,6 +108,7 @@ pub fn story(mut rng: Rng) -> Story {
     let mut teller = Teller {
         rng,
         cast,
+        about_mixes,
         sound: (card.clone(), chip.clone()),
         card: card.clone(),
         chip: chip.clone(),
@@ -262,7 +279,11 @@ impl Teller {
     /// Mostly one thing is wrong or none; a wild call has several.
     fn call(&mut self) -> Call {
         let wild = self.rng.percent(12);
-        match self.rng.below(124) {
+        let kind = match self.about_mixes && self.rng.percent(50) {
+            true => 124 + self.rng.below(38),
+            false => self.rng.below(170),
+        };
+        match kind {
             0..=29 => Call::from(self.set(wild)),
             30..=49 => {
                 let name = self.name(wild);
@@ -309,7 +330,137 @@ impl Teller {
             },
             100..=105 => self.set_start(wild),
             106..=113 => self.set_add_data(wild),
-            _ => self.set_finalize(wild),
+            114..=123 => self.set_finalize(wild),
+            124..=141 => self.store_mix(wild),
+            142..=161 => Call::FindMix {
+                key: self.key(wild),
+                session: self.session(),
+                mix_buffer: self.mix_buffer(wild),
+            },
+            162..=165 => self.encode_mix(wild),
+            _ => self.decode_mix(wild),
+        }
+    }
+
+    fn store_mix(&mut self, wild: bool) -> Call {
+        let name = self.mix_name(wild);
+        let chance = if wild { 70 } else { 92 };
+        let sound = self.rng.percent(chance);
+        Call::StoreMix {
+            key: self.key(wild),
+            flags: self.flags(&name, wild),
+            name,
+            iv: self.iv(wild),
+            mix: cast::mix(&mut self.rng, &self.cast, sound),
+        }
+    }
+
+    /// Mostly a mix's; at times one that is none, or bad behind its front.
+    fn mix_name(&mut self, wild: bool) -> Vec<u8> {
+        let chance = if wild { 15 } else { 3 };
+        if self.rng.percent(chance) {
+            return [mix::PREFIX, &cast::hostile_name(&mut self.rng)].concat();
+        }
+        if self.rng.percent(chance) {
+            return self.name(wild);
+        }
+        let mut named = self.cast.names.clone();
+        if let Some((card, chip)) = self.areas() {
+            named.extend(card.used().map(|(_, place)| place.name.clone()));
+            named.extend(chip.used().map(|(_, entry)| entry.name.clone()));
+        }
+        named.retain(|name| mixing::mix_like(name));
+        self.rng.pick(&named)
+    }
+
+    /// One that the card holds, one that it might, or another.
+    fn session(&mut self) -> u64 {
+        let held = match self.areas() {
+            Some((card, _)) if self.rng.percent(60) => mixing::held(&card, &self.cast.key),
+            _ => Vec::new(),
+        };
+        if held.is_empty() {
+            mixing::session(&mut self.rng, &self.cast.sessions)
+        } else {
+            self.rng.pick(&held)
+        }
+    }
+
+    fn mix_buffer(&mut self, wild: bool) -> Vec<u8> {
+        let chance = if wild { 30 } else { 4 };
+        let length = if self.rng.percent(chance) {
+            self.rng.pick(&[0, 1, 9, 144, 152])
+        } else {
+            self.rng.pick(&[153, 153, 154, 480])
+        };
+        self.rng.bytes(length)
+    }
+
+    fn encode_mix(&mut self, wild: bool) -> Call {
+        let rng = &mut self.rng;
+        let mix = mixing::mix(rng, &self.cast.sessions);
+        let mut tags: Vec<u8> = mix.sends.iter().map(|send| send.tag()).collect();
+        let mut levels: Vec<u32> = mix.sends.iter().map(|send| send.level()).collect();
+        let mut pans: Vec<u32> = mix.sends.iter().map(|send| send.pan()).collect();
+        // What a send has not may be anything.
+        for (at, tag) in tags.iter().enumerate() {
+            if *tag == mix::MUTED {
+                levels[at] = rng.number() as u32;
+            }
+            if *tag != mix::LEVEL_AND_PAN {
+                pans[at] = rng.number() as u32;
+            }
+        }
+        let chance = if wild { 60 } else { 25 };
+        if rng.percent(chance) {
+            let at = rng.below(tags.len().max(1));
+            match rng.below(6) {
+                0 => tags.resize(rng.pick(&[17, 18, 40]), 0),
+                1 if !tags.is_empty() => tags[at] = rng.pick(&[3, 4, 0x82, 0xff]),
+                2 if !tags.is_empty() => {
+                    tags[at] = rng.pick(&[mix::LEVEL, mix::LEVEL_AND_PAN]);
+                    levels[at] = mixing::wrong_level(rng);
+                }
+                3 if !tags.is_empty() => {
+                    tags[at] = mix::LEVEL_AND_PAN;
+                    pans[at] = mixing::wrong_pan(rng);
+                }
+                4 => levels.resize(levels.len() + rng.pick(&[1, 16]), 0),
+                _ => pans.truncate(at),
+            }
+            if tags.len() > SENDS_MAX || rng.percent(50) {
+                levels.resize(tags.len(), 0);
+                pans.resize(tags.len(), 0);
+            }
+        }
+        Call::EncodeMix {
+            session: mix.session,
+            tags,
+            levels,
+            pans,
+            mix_buffer: self.mix_buffer(wild),
+        }
+    }
+
+    fn decode_mix(&mut self, wild: bool) -> Call {
+        let chance = if wild { 50 } else { 70 };
+        let sound = self.rng.percent(chance);
+        let mix = cast::mix(&mut self.rng, &self.cast, sound);
+        let mut length = || match self.rng.below(30) {
+            0 => self.rng.pick(&[0, 1, 14, 15]),
+            1 => 0,
+            2..=4 => self.rng.pick(&[17, 20, 64]),
+            _ => SENDS_MAX,
+        };
+        let lengths = [length(), length(), length()];
+        let mut bits =
+            |length: usize| -> Vec<u32> { (0..length).map(|_| self.rng.number() as u32).collect() };
+        let (levels, pans) = (bits(lengths[1]), bits(lengths[2]));
+        Call::DecodeMix {
+            mix,
+            tags: self.rng.bytes(lengths[0]),
+            levels,
+            pans,
         }
     }
 
@@ -322,6 +473,10 @@ impl Teller {
         } else if cast::key_like(&self.cast, &name) && self.rng.percent(70) {
             let sound = self.rng.percent(50);
             cast::key_file(&mut self.rng, sound)
+        } else if mixing::mix_like(&name) && self.rng.percent(95) {
+            // Bytes that no call for mixes would have stored, at times.
+            let sound = self.rng.percent(70);
+            cast::mix(&mut self.rng, &self.cast, sound)
         } else {
             cast::data(&mut self.rng)
         };

@@ -21,6 +21,7 @@ fn options(mut arguments: impl Iterator<Item = String>) -> Result<Option<Options
         divisions: 4_000,
         cards: 100_000,
         edges: edges::FOLDER.into(),
+        all_floats: false,
     };
     while let Some(name) = arguments.next() {
         let mut value = || arguments.next().ok_or(format!("{name} wants a value"));
@@ -33,6 +34,7 @@ fn options(mut arguments: impl Iterator<Item = String>) -> Result<Option<Options
             "--divisions" => options.divisions = number(value()?)?,
             "--cards" => options.cards = number(value()?)?,
             "--edges" => options.edges = value()?.into(),
+            "--all-floats" => options.all_floats = true,
             _ => return Err(format!("{name} is unknown")),
         }
     }
@@ -51,7 +53,11 @@ fn main() -> ExitCode {
             return ExitCode::from(2);
         }
     };
-    let score = driver::run(&ffi::Product, &options);
+    let score = if options.all_floats {
+        driver::all_floats()
+    } else {
+        driver::run(&ffi::Product, &options)
+    };
     println!("{} passed, {} failed", score.passed, score.failed);
     if score.failed > 0 {
         ExitCode::FAILURE

@@ -8,6 +8,7 @@ use crate::ciphers::Checked;
 use crate::handle::{Handle, STAGING};
 use crate::keyfile::{Attributes, KeyFile};
 use crate::library::Library;
+use crate::mix::{Mix, Send};
 use crate::record::{Flags, Record};
 use crate::show;
 
@@ -16,6 +17,9 @@ const IV: [u8; 8] = *b"iv-iv-iv";
 const IDENTIFIER: u32 = 42;
 /// The known name, which is a key's too.
 const NAME: &[u8] = b"000000000000002a";
+/// The same for calls of mixes.
+const MIX_NAME: &[u8] = b"mix/known";
+const SESSION: u64 = 0x0123_4567_89ab_cdef;
 /// Confidentiality, integrity and replay protection.
 const FLAGS: u32 = 14;
 const ATTRIBUTES: Attributes = Attributes {
@@ -50,22 +54,49 @@ fn seal(flags: u32, name: &[u8], data: &[u8]) -> (Place, Entry) {
     (place, entry)
 }
 
-/// Three places and three entries: the known name, a free one, another name.
+/// Three places and three entries: the known name, a free one, another name. A search
+/// for a mix has a second one in the middle, of another session.
 fn scene(call: Call) -> Scene {
-    let file = KeyFile::new(ATTRIBUTES, b"key").expect("short material");
-    let (known, entry) = seal(FLAGS, NAME, &file.encode());
+    let name = known(&call);
+    let content = if name == MIX_NAME {
+        mix(SESSION)
+    } else {
+        let file = KeyFile::new(ATTRIBUTES, b"key").expect("short material");
+        file.encode()
+    };
+    let (middle, middle_entry) = match call {
+        Call::FindMix { .. } => {
+            let (place, entry) = seal(FLAGS, b"mix/second", &mix(!SESSION));
+            (Some(place), Some(entry))
+        }
+        _ => (None, None),
+    };
+    let (known, entry) = seal(FLAGS, name, &content);
     let (other, other_entry) = seal(FLAGS, b"other", b"data");
     let card = Card {
-        slots: vec![Some(known), None, Some(other)],
+        slots: vec![Some(known), middle, Some(other)],
     };
     let chip = Chip {
-        slots: vec![Some(entry), None, Some(other_entry)],
+        slots: vec![Some(entry), middle_entry, Some(other_entry)],
     };
     Scene {
         card: card.encode(),
         chip: chip.encode(),
         call,
     }
+}
+
+fn known(call: &Call) -> &'static [u8] {
+    match call {
+        Call::StoreMix { .. } | Call::FindMix { .. } => MIX_NAME,
+        _ => NAME,
+    }
+}
+
+/// A mix of one send with a level and a pan.
+fn mix(session: u64) -> Vec<u8> {
+    let sends = vec![Send::LevelAndPan(0x3f80_0000, 0x8000_0000)];
+    Mix { session, sends }.encode()
 }
 
 const CARD_LENGTH: Fault = (1, |scene| scene.card.push(0));
@@ -76,11 +107,16 @@ const KEY_LENGTH: Fault = (1, |scene| match &mut scene.call {
     | Call::Info { key, .. }
     | Call::KeepKey { key, .. }
     | Call::LoadKey { key, .. }
-    | Call::SetFinalize { key, .. } => key.push(0),
+    | Call::SetFinalize { key, .. }
+    | Call::StoreMix { key, .. }
+    | Call::FindMix { key, .. } => key.push(0),
     _ => unreachable!("lent no key"),
 });
 const IV_LENGTH: Fault = (1, |scene| match &mut scene.call {
-    Call::Set { iv, .. } | Call::KeepKey { iv, .. } | Call::SetStart { iv, .. } => iv.truncate(7),
+    Call::Set { iv, .. }
+    | Call::KeepKey { iv, .. }
+    | Call::SetStart { iv, .. }
+    | Call::StoreMix { iv, .. } => iv.truncate(7),
     _ => unreachable!("lent no IV"),
 });
 const STAGING_LENGTH: Fault = (1, |scene| match &mut scene.call {
@@ -92,6 +128,9 @@ const BUFFER_LENGTH: Fault = (1, |scene| match &mut scene.call {
     Call::WriteKeyFile { key_buffer, .. } | Call::LoadKey { key_buffer, .. } => {
         key_buffer.truncate(479)
     }
+    Call::FindMix { mix_buffer, .. } | Call::EncodeMix { mix_buffer, .. } => {
+        mix_buffer.truncate(152)
+    }
     _ => unreachable!("lent no such buffer"),
 });
 // The other name's slots are damaged, so that the known one is still found.
@@ -102,6 +141,7 @@ const BAD_NAME: Fault = (3, |scene| match &mut scene.call {
     | Call::Get { name, .. }
     | Call::Info { name, .. }
     | Call::Remove { name }
+    | Call::StoreMix { name, .. }
     | Call::Walk { prefix: name, .. } => name.push(0x7f),
     Call::KeepKey { identifier, .. } | Call::LoadKey { identifier, .. } => *identifier = 0,
     Call::SetFinalize { .. } => change_handle(&mut scene.call, |handle| handle.name[0] = 0x7f),
@@ -192,31 +232,99 @@ const OFFSET_BEYOND: Fault = (14, |scene| {
         *offset = 40;
     }
 });
-const NOT_A_KEY_FILE: Fault = (13, |scene| {
-    let (place, entry) = seal(FLAGS, NAME, b"no key file");
-    let mut card = Card::decode(&scene.card).expect("sound so far");
-    let mut chip = Chip::decode(&scene.chip).expect("sound so far");
-    card.put(place);
-    chip.put(entry);
-    (scene.card, scene.chip) = (card.encode(), chip.encode());
-});
+const NOT_A_KEY_FILE: Fault = (13, |scene| reseal(scene, NAME, b"no key file"));
 const MATERIAL_TOO_LONG: Fault = (13, |scene| match &mut scene.call {
     Call::WriteKeyFile { material, .. } | Call::KeepKey { material, .. } => material.resize(445, 1),
     _ => unreachable!("no material"),
 });
 
+const MIX_BYTES: Fault = (20, |scene| match &mut scene.call {
+    Call::StoreMix { mix, .. } | Call::DecodeMix { mix, .. } => mix.push(0),
+    _ => unreachable!("no mix"),
+});
+const NOT_A_MIX_NAME: Fault = (3, |scene| match &mut scene.call {
+    Call::StoreMix { name, .. } => name[3] = b':',
+    _ => unreachable!("no name"),
+});
+const HOLDS_NO_MIX: Fault = (20, |scene| reseal(scene, MIX_NAME, b"no mix"));
+// The same of the second mix.
+const SECOND_REVISION: Fault = (8, |scene| scene.card[PLACE + 68 + 2] = 2);
+const SECOND_CMAC_WRONG: Fault = (11, |scene| scene.card[PLACE + 68 + 20] ^= 1);
+const SECOND_ENTRY_DIFFERS: Fault = (12, |scene| scene.chip[2 * ENTRY - 1] ^= 1);
+const SECOND_HOLDS_NO_MIX: Fault = (20, |scene| reseal(scene, b"mix/second", b""));
+const BOTH_HOLD_IT: Fault = (21, |scene| reseal(scene, b"mix/second", &mix(SESSION)));
+const NONE_HOLDS_IT: Fault = (6, |scene| match &mut scene.call {
+    Call::FindMix { session, .. } => *session ^= 1 << 63,
+    _ => unreachable!("no session"),
+});
+const LEVELS_DIFFER: Fault = (1, |scene| match &mut scene.call {
+    Call::EncodeMix { levels, .. } => levels.push(0),
+    _ => unreachable!("no levels"),
+});
+const PANS_DIFFER: Fault = (1, |scene| match &mut scene.call {
+    Call::EncodeMix { pans, .. } => pans.truncate(1),
+    _ => unreachable!("no pans"),
+});
+const MANY_SENDS: Fault = (20, |scene| match &mut scene.call {
+    Call::EncodeMix {
+        tags, levels, pans, ..
+    } => {
+        tags.resize(17, 0);
+        levels.resize(17, 0);
+        pans.resize(17, 0);
+    }
+    _ => unreachable!("no sends"),
+});
+const BAD_TAG: Fault = (20, |scene| match &mut scene.call {
+    Call::EncodeMix { tags, .. } => tags[0] = 3,
+    _ => unreachable!("no tags"),
+});
+const BAD_LEVEL: Fault = (20, |scene| match &mut scene.call {
+    Call::EncodeMix { levels, .. } => levels[1] = 0x4080_0001,
+    _ => unreachable!("no levels"),
+});
+const BAD_PAN: Fault = (20, |scene| match &mut scene.call {
+    Call::EncodeMix { pans, .. } => pans[2] = 0x7fc0_0000,
+    _ => unreachable!("no pans"),
+});
+const FEW_TAGS: Fault = (1, |scene| match &mut scene.call {
+    Call::DecodeMix { tags, .. } => tags.truncate(15),
+    _ => unreachable!("no tags"),
+});
+const FEW_LEVELS: Fault = (1, |scene| match &mut scene.call {
+    Call::DecodeMix { levels, .. } => levels.truncate(15),
+    _ => unreachable!("no levels"),
+});
+const FEW_PANS: Fault = (1, |scene| match &mut scene.call {
+    Call::DecodeMix { pans, .. } => pans.truncate(15),
+    _ => unreachable!("no pans"),
+});
+
+/// Seals the record anew with other data, on card and chip.
+fn reseal(scene: &mut Scene, name: &[u8], data: &[u8]) {
+    let (place, entry) = seal(FLAGS, name, data);
+    let mut card = Card::decode(&scene.card).expect("sound so far");
+    let mut chip = Chip::decode(&scene.chip).expect("sound so far");
+    card.put(place);
+    chip.put(entry);
+    (scene.card, scene.chip) = (card.encode(), chip.encode());
+}
+
 /// Seals the known name's record anew, with these flags.
 fn disown<const BITS: u32>(scene: &mut Scene) {
     let mut card = Card::decode(&scene.card).expect("sound so far");
-    let known = card.find(NAME).expect("the known name");
+    let name = known(&scene.call);
+    let known = card.find(name).expect("the known name");
     let known = Record::decode(&known.record).expect("sound so far");
-    card.put(seal(BITS, NAME, &known.data(&KEY, NAME)).0);
+    card.put(seal(BITS, name, &known.data(&KEY, name)).0);
     scene.card = card.encode();
 }
 
 fn change_flags(call: &mut Call, change: fn(u32) -> u32) {
     match call {
-        Call::Set { flags, .. } | Call::KeepKey { flags, .. } => *flags = change(*flags),
+        Call::Set { flags, .. } | Call::KeepKey { flags, .. } | Call::StoreMix { flags, .. } => {
+            *flags = change(*flags)
+        }
         Call::SetFinalize { .. } => {
             change_handle(call, |handle| handle.flags = change(handle.flags))
         }
@@ -239,6 +347,7 @@ fn change_handle(call: &mut Call, change: impl Fn(&mut Handle)) {
 fn new_name(call: &Call) -> Vec<u8> {
     match call {
         Call::Set { .. } | Call::SetFinalize { .. } => b"new".to_vec(),
+        Call::StoreMix { .. } => b"mix/new".to_vec(),
         _ => b"0000000000000001".to_vec(),
     }
 }
@@ -266,6 +375,7 @@ fn order(library: &dyn Library, call: &Call, faults: &[Fault]) -> Result<usize, 
             && answer.chip == scene.chip
             && answer.output == scene.call.output()
             && answer.handle == refused_handle(&scene.call)
+            && [&answer.levels[..], &answer.pans] == scene.call.floats()
             && answer.returned == [0; 2];
         if answer.number != expected || !got.strays.is_empty() || expected != 0 && !unchanged {
             let numbers: Vec<u32> = chosen().map(|(_, (number, _))| *number).collect();
@@ -385,6 +495,44 @@ fn set_finalize(name: &[u8]) -> Call {
         key: KEY.to_vec(),
         handle: handle(name, 4).encode(),
         staging: vec![0xee; STAGING],
+    }
+}
+
+fn store_mix(name: &[u8]) -> Call {
+    Call::StoreMix {
+        key: KEY.to_vec(),
+        name: name.to_vec(),
+        flags: FLAGS,
+        iv: IV.to_vec(),
+        mix: mix(SESSION),
+    }
+}
+
+fn find_mix() -> Call {
+    Call::FindMix {
+        key: KEY.to_vec(),
+        session: SESSION,
+        mix_buffer: vec![0xee; 153],
+    }
+}
+
+/// A muted send, one with a level and one with a level and a pan.
+fn encode_mix() -> Call {
+    Call::EncodeMix {
+        session: SESSION,
+        tags: vec![0, 1, 2],
+        levels: vec![0x7fc0_0000, 0, 0x4080_0000],
+        pans: vec![0, 0x7fc0_0000, 0xbf80_0000],
+        mix_buffer: vec![0xee; 153],
+    }
+}
+
+fn decode_mix() -> Call {
+    Call::DecodeMix {
+        mix: mix(SESSION),
+        tags: vec![0xee; 16],
+        levels: vec![0xeeee_eeee; 16],
+        pans: vec![0xeeee_eeee; 16],
     }
 }
 
@@ -540,6 +688,60 @@ fn handle_orders() -> Vec<Order> {
     ]
 }
 
+fn store_mix_orders() -> Vec<Order> {
+    let before = &[MIX_BYTES, NOT_A_MIX_NAME, IV_LENGTH, KEY_LENGTH];
+    let order = |name, of: &[u8], faults| {
+        let faults = line(&[before, AREAS, &[BAD_FLAGS], faults]);
+        (name, store_mix(of), faults)
+    };
+    vec![
+        order("store_mix-known", MIX_NAME, STORED),
+        order("store_mix-new", b"mix/new", FULL),
+        order("store_mix-on-chip", b"mix/new", ON_CHIP),
+        order("store_mix-downgrade", MIX_NAME, DOWNGRADE),
+        order("store_mix-downgrade-on-chip", b"mix/new", DOWNGRADE_ON_CHIP),
+    ]
+}
+
+/// No name is given; the first mix decides before the second, and both before 21 and 6.
+fn find_mix_orders() -> Vec<Order> {
+    let damage = [CARD_DAMAGED, CHIP_DAMAGED];
+    let first = line(&[LENGTHS, &[KEY_LENGTH, BUFFER_LENGTH], &damage]);
+    let second = &[
+        SECOND_REVISION,
+        SECOND_CMAC_WRONG,
+        SECOND_ENTRY_DIFFERS,
+        SECOND_HOLDS_NO_MIX,
+    ];
+    let holds = &[HOLDS_NO_MIX];
+    let order = |name, parts: &[&[Fault]]| (name, find_mix(), line(parts));
+    let both = &[BOTH_HOLD_IT];
+    let none = &[NONE_HOLDS_IT];
+    vec![
+        order("find_mix-first", &[&first, READ, holds, both]),
+        order("find_mix-second", &[&first, second, both]),
+        order("find_mix-second-absent", &[&first, second, none]),
+        order("find_mix-twice", &[&damage, READ, holds, second, both]),
+        order("find_mix-absent", &[&damage, READ, holds, second, none]),
+        order("find_mix-downgraded", &[&first, READ_DOWNGRADED, both]),
+        order("find_mix-planted", &[&first, READ_PLANTED, none]),
+        order("find_mix-unkept", &[&first, &[ENTRY_ABSENT], second, both]),
+    ]
+}
+
+fn float_orders() -> Vec<Order> {
+    let lengths = &[BUFFER_LENGTH, LEVELS_DIFFER, PANS_DIFFER];
+    let sends = &[MANY_SENDS, BAD_TAG, BAD_LEVEL, BAD_PAN];
+    vec![
+        ("encode_mix", encode_mix(), line(&[lengths, sends])),
+        (
+            "decode_mix",
+            decode_mix(),
+            vec![FEW_TAGS, FEW_LEVELS, FEW_PANS, MIX_BYTES],
+        ),
+    ]
+}
+
 fn orders() -> Vec<Order> {
     [
         get_orders(),
@@ -547,6 +749,9 @@ fn orders() -> Vec<Order> {
         keyless_orders(),
         set_orders(),
         handle_orders(),
+        store_mix_orders(),
+        find_mix_orders(),
+        float_orders(),
     ]
     .concat()
 }

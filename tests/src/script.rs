@@ -113,14 +113,20 @@ impl<'a> Line<'a> {
         }
     }
 
-    pub fn attributes(&mut self) -> Read<Attributes> {
+    /// Numbers of four bytes each, little-endian, or as many floats by their bits.
+    pub fn fours(&mut self) -> Read<Vec<u32>> {
         let bytes = self.bytes()?;
-        let numbers: Vec<u32> = bytes
-            .chunks_exact(4)
-            .map(|four| u32::from_le_bytes(four.try_into().expect("four bytes")))
-            .collect();
-        match numbers[..] {
-            [lifetime, kind, usage, algorithm, enrollment] if bytes.len() == 20 => Ok(Attributes {
+        let fours = bytes.chunks_exact(4);
+        if !fours.remainder().is_empty() {
+            return refuse();
+        }
+        let number = |four: &[u8]| u32::from_le_bytes(four.try_into().expect("four bytes"));
+        Ok(fours.map(number).collect())
+    }
+
+    pub fn attributes(&mut self) -> Read<Attributes> {
+        match self.fours()?[..] {
+            [lifetime, kind, usage, algorithm, enrollment] => Ok(Attributes {
                 lifetime,
                 kind,
                 usage,

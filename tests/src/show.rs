@@ -76,6 +76,56 @@ pub fn call(call: &Call) -> String {
         Call::SetStart { .. } | Call::SetAddData { .. } | Call::SetFinalize { .. } => {
             handle_call(call)
         }
+        _ => mix_call(call),
+    }
+}
+
+fn mix_call(call: &Call) -> String {
+    match call {
+        Call::StoreMix {
+            key,
+            name: n,
+            flags,
+            iv,
+            mix,
+        } => format!(
+            "store_mix name {} flags {flags:#x} key {} iv {} mix {}",
+            name(n),
+            hex(key),
+            hex(iv),
+            hex(mix)
+        ),
+        Call::FindMix {
+            key,
+            session,
+            mix_buffer,
+        } => format!(
+            "find_mix session {session} key {} mix buffer {}",
+            hex(key),
+            buffer(mix_buffer)
+        ),
+        Call::EncodeMix {
+            session,
+            tags,
+            levels,
+            pans,
+            mix_buffer,
+        } => format!(
+            "encode_mix session {session} tags {} levels {levels:08x?} pans {pans:08x?} mix buffer {}",
+            hex(tags),
+            buffer(mix_buffer)
+        ),
+        Call::DecodeMix {
+            mix,
+            tags,
+            levels,
+            pans,
+        } => format!(
+            "decode_mix mix {} tags {} levels {levels:08x?} pans {pans:08x?}",
+            hex(mix),
+            hex(tags)
+        ),
+        _ => unreachable!("no call of mixes"),
     }
 }
 
@@ -170,14 +220,22 @@ fn key_call(call: &Call) -> String {
 
 pub fn answer(answer: &Answer) -> String {
     format!(
-        "number {} returned {:?}\n      card {}\n      chip {}\n      output {}\n      handle {}",
+        "number {} returned {:?}\n      card {}\n      chip {}\n      output {}\n      handle {}\n      \
+         levels {:08x?} pans {:08x?}",
         answer.number,
         answer.returned,
         buffer(&answer.card),
         buffer(&answer.chip),
         buffer(&answer.output),
-        buffer(&answer.handle)
+        buffer(&answer.handle),
+        answer.levels,
+        answer.pans
     )
+}
+
+/// The bits of floats, as they stand in memory.
+pub fn float_bytes(bits: &[u32]) -> Vec<u8> {
+    bits.iter().flat_map(|bits| bits.to_le_bytes()).collect()
 }
 
 /// The first byte in which two buffers differ.

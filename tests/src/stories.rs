@@ -36,6 +36,13 @@ pub fn difference(expected: &Answer, got: &Observed) -> Option<String> {
         .or_else(|| show::first_difference("chip", &expected.chip, &answer.chip))
         .or_else(|| show::first_difference("output", &expected.output, &answer.output))
         .or_else(|| show::first_difference("handle", &expected.handle, &answer.handle))
+        .or_else(|| different_floats("levels", &expected.levels, &answer.levels))
+        .or_else(|| different_floats("pans", &expected.pans, &answer.pans))
+}
+
+fn different_floats(what: &str, expected: &[u32], got: &[u32]) -> Option<String> {
+    let (expected, got) = (show::float_bytes(expected), show::float_bytes(got));
+    show::first_difference(what, &expected, &got)
 }
 
 /// The number that the library answers, which has to be the reference's.
@@ -78,6 +85,7 @@ pub fn check(story: &Story, library: &dyn Library, tally: &mut Tally) -> Option<
                 let got = library.call(&card, &chip, call);
                 tally.count(call.kind(), got.answer.number, why);
                 tally.meet(&card, &chip, call);
+                tally.search(&card, &chip, call);
                 if difference(&expected, &got).is_some() {
                     return Some(Mismatch {
                         step,
@@ -198,6 +206,7 @@ mod tests {
         let kinds: Vec<usize> = (0..Call::KINDS.len()).collect();
         assert_eq!(tally.gaps(&kinds), Vec::<String>::new());
         assert_eq!(tally.met_gaps(), Vec::<String>::new());
+        assert_eq!(tally.searched_gaps(), Vec::<String>::new());
     }
 
     /// Writes one byte too many on a done get.

@@ -6,10 +6,11 @@ use crate::answer::Why;
 use crate::area;
 use crate::calls::Call;
 use crate::cast::GOOD_FLAGS;
+use crate::mixing;
 use crate::record::Record;
 
 /// What the calls answer with: 01's numbers, and those of the requests so far.
-pub const NUMBERS: [u32; 16] = [0, 1, 2, 3, 4, 5, 6, 7, 8, 9, 10, 11, 12, 13, 14, 19];
+pub const NUMBERS: [u32; 18] = [0, 1, 2, 3, 4, 5, 6, 7, 8, 9, 10, 11, 12, 13, 14, 19, 20, 21];
 
 /// How often each call answered each number, and for which test.
 #[derive(Clone, Default)]
@@ -19,6 +20,8 @@ pub struct Tally {
     /// Answers with any other number.
     strange: u64,
     met: BTreeMap<Met, u64>,
+    /// 02, No. 5: what a search for a mix meets.
+    searched: BTreeMap<mixing::Met, u64>,
 }
 
 /// 02, No. 4: the flags that a call meets under a name that the chip holds.
@@ -60,6 +63,9 @@ impl Tally {
         for (met, more) in &other.met {
             *self.met.entry(*met).or_default() += more;
         }
+        for (met, more) in &other.searched {
+            *self.searched.entry(*met).or_default() += more;
+        }
     }
 
     /// Counts a call that reads or sets a name that the chip holds, on sound areas and
@@ -68,6 +74,28 @@ impl Tally {
         if let Some(met) = Met::of(card, chip, call) {
             *self.met.entry(met).or_default() += 1;
         }
+    }
+
+    /// Counts what a search for a mix meets on the card and in the chip.
+    pub fn search(&mut self, card: &[u8], chip: &[u8], call: &Call) {
+        for met in mixing::met(card, chip, call) {
+            *self.searched.entry(met).or_default() += 1;
+        }
+    }
+
+    /// How often each was met, one in a line.
+    pub fn searched(&self) -> String {
+        let lines = self.searched.iter();
+        let lines = lines.map(|(met, count)| format!("{count:>12} {met}"));
+        lines.collect::<Vec<String>>().join("\n")
+    }
+
+    /// What no search has met.
+    pub fn searched_gaps(&self) -> Vec<String> {
+        let due = mixing::due().into_iter();
+        due.filter(|met| !self.searched.contains_key(met))
+            .map(|met| met.to_string())
+            .collect()
     }
 
     /// How often such names were read and set, by the flags on the card.
@@ -214,6 +242,10 @@ fn refusals(kind: &str) -> Vec<Why> {
         EntryDiffers,
         Downgraded,
     ];
+    let tried = read.into_iter().filter(|why| *why != GoneFromCard);
+    let tried: Vec<Why> = tried.collect();
+    let sends = [MixCount, MixTag, MixLevel, MixPan];
+    let mix = [&sends[..], &[MixLength, MixUnused]].concat();
     let handle = [StagingLength, HandleNameLength, HandleDeclared, HandleCount];
     let parts: Vec<&[Why]> = match kind {
         "set" => vec![&areas, &set, &[IvLength, BadName, DataTooLong]],
@@ -232,6 +264,11 @@ fn refusals(kind: &str) -> Vec<Why> {
         "set_start" => vec![&[IvLength, NameTooLong, DeclaredTooLong]],
         "set_add_data" => vec![&handle, &[ChunkPastDeclared]],
         "set_finalize" => vec![&areas, &set, &handle, &[BadName, DataMissing]],
+        "store_mix" => vec![&areas, &set, &mix, &[IvLength, NotAMixName, BadName]],
+        // The card holds each name that is tried.
+        "find_mix" => vec![&areas, &tried, &mix, &[MixBufferLength, Ambiguous]],
+        "encode_mix" => vec![&sends, &[MixBufferLength, LevelsDiffer, PansDiffer]],
+        "decode_mix" => vec![&mix, &[TagsLength, LevelsLength, PansLength]],
         _ => panic!("no call of that kind"),
     };
     parts.concat()

@@ -6,6 +6,7 @@ use crate::calls::Call;
 use crate::handle::{Handle, HandleBytes};
 use crate::keyfile::Attributes;
 use crate::library::{Library, Observed};
+use crate::mix::SENDS_MAX;
 use crate::script::{self, refuse, spell_all, Line, Place, Read, Value};
 use crate::show;
 
@@ -16,6 +17,9 @@ const NAMES_MAX: u64 = 94;
 const SWEPT_MAX: u64 = 65_535;
 /// More than a staging buffer's 480 bytes.
 const STAGING_MAX: usize = 512;
+/// What the sends' entries of a mix hold before it is decoded.
+const LENT: u8 = 0xee;
+const LENT_FLOAT: u32 = 0xeeee_eeee;
 const PREPARING: [&[u8]; 13] = [
     b"slots",
     b"card",
@@ -33,6 +37,7 @@ const PREPARING: [&[u8]; 13] = [
 ];
 
 /// What lasts from line to line of a file.
+#[derive(Clone)]
 pub struct Bench<'a> {
     library: &'a dyn Library,
     card: Vec<u8>,
@@ -145,7 +150,10 @@ impl Bench<'_> {
                 let call = self.call(line)?;
                 line.equals()?;
                 let answer = self.run(&call)?;
-                Ok(values(&call, &answer))
+                match call {
+                    Call::DecodeMix { .. } => decoded(&answer),
+                    _ => Ok(values(&call, &answer)),
+                }
             }
         }
     }
@@ -190,7 +198,41 @@ impl Bench<'_> {
                 name_buffer: line.bytes()?,
             },
             b"start" | b"add" | b"finalize" => return self.incremental_call(line),
+            b"store_mix" | b"find_mix" | b"encode_mix" | b"decode_mix" => {
+                return self.mix_call(line)
+            }
             _ => return self.key_call(line),
+        })
+    }
+
+    fn mix_call(&self, line: &mut Line) -> Read<Call> {
+        let key = self.key.clone();
+        Ok(match line.word {
+            b"store_mix" => Call::StoreMix {
+                key,
+                name: line.bytes()?,
+                flags: flags(line)?,
+                iv: self.iv.clone(),
+                mix: line.bytes()?,
+            },
+            b"find_mix" => Call::FindMix {
+                key,
+                session: line.number(u64::MAX)?,
+                mix_buffer: line.bytes()?,
+            },
+            b"encode_mix" => Call::EncodeMix {
+                session: line.number(u64::MAX)?,
+                tags: line.bytes()?,
+                levels: line.fours()?,
+                pans: line.fours()?,
+                mix_buffer: line.bytes()?,
+            },
+            _ => Call::DecodeMix {
+                mix: line.bytes()?,
+                tags: vec![LENT; SENDS_MAX],
+                levels: vec![LENT_FLOAT; SENDS_MAX],
+                pans: vec![LENT_FLOAT; SENDS_MAX],
+            },
         })
     }
 
@@ -258,6 +300,7 @@ impl Bench<'_> {
                 | Call::Reset
                 | Call::KeepKey { .. }
                 | Call::SetFinalize { .. }
+                | Call::StoreMix { .. }
         );
         if answer.number != 0 || !writes {
             let card = show::first_difference("the card", &self.card, &answer.card);
@@ -370,6 +413,7 @@ fn values(call: &Call, answer: &Answer) -> Vec<Value> {
         Call::Info { .. } => (2, false, false),
         Call::Walk { .. } => (2, false, true),
         Call::Get { .. } | Call::LoadKey { .. } | Call::WriteKeyFile { .. } => (1, false, true),
+        Call::FindMix { .. } | Call::EncodeMix { .. } => (1, false, true),
         Call::SetStart { .. } => (0, true, false),
         Call::SetAddData { .. } => (0, true, true),
         _ => (0, false, false),
@@ -380,4 +424,30 @@ fn values(call: &Call, answer: &Answer) -> Vec<Value> {
     values.extend(handle.then(|| Value::Bytes(answer.handle.clone())));
     values.extend(output.then(|| Value::Bytes(answer.output.clone())));
     values
+}
+
+/// The number, the session, and tags, levels and pans of as many sends as there are. The
+/// entries behind them have to be as lent.
+fn decoded(answer: &Answer) -> Read<Vec<Value>> {
+    let [session, sends] = answer.returned;
+    let sends = usize::try_from(sends).unwrap_or(usize::MAX);
+    if sends > SENDS_MAX {
+        return Err(format!("answered {}, with {sends} sends", answer.number));
+    }
+    let (tags, levels, pans) = (&answer.output, &answer.levels, &answer.pans);
+    let floats = levels[sends..].iter().chain(&pans[sends..]);
+    let behind = tags[sends..].iter().all(|tag| *tag == LENT);
+    if !behind || floats.into_iter().any(|bits| *bits != LENT_FLOAT) {
+        return Err(format!(
+            "answered {}, but wrote behind {sends} sends",
+            answer.number
+        ));
+    }
+    Ok(vec![
+        Value::Number(answer.number.into()),
+        Value::Number(session),
+        Value::Bytes(tags[..sends].to_vec()),
+        Value::Bytes(show::float_bytes(&levels[..sends])),
+        Value::Bytes(show::float_bytes(&pans[..sends])),
+    ])
 }
