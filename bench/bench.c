@@ -322,11 +322,106 @@ static void parts(void)
     printf("| finding, judging and decrypting the record | %.1f |\n\n", (all[0].best - all[1].best) * 1e6);
 }
 
+/* ---- mixes: no peer has them, so they stand beside a get of one of them */
+
+static const size_t MIXES[] = {1, 16, 64};
+#define MIX_COUNT (sizeof MIXES / sizeof MIXES[0])
+
+static void mix_name(size_t i, uint8_t name[16])
+{
+    char text[17];
+    sprintf(text, "mix/%012u", (unsigned)i);
+    memcpy(name, text, 16);
+}
+
+/* A mix of 16 sends, with level and pan; its session number is i. */
+static uint32_t store_mix_in(const struct box *b, size_t i)
+{
+    uint8_t name[16], tags[16], mix[SECURESTORE_MIX_MAX];
+    float levels[16], pans[16];
+    size_t j, count;
+    for (j = 0; j < 16; j++) {
+        tags[j] = SECURESTORE_SEND_LEVEL_PAN;
+        levels[j] = 0.25f * (float)j;
+        pans[j] = -0.0625f * (float)j;
+    }
+    mix_name(i, name);
+    must(securestore_encode_mix(i, tags, 16, levels, 16, pans, 16, mix, sizeof mix, &count) == 0 && count == sizeof mix, "encode_mix", b->store->name);
+    return securestore_store_mix(b->kv, b->slots * 584, b->rbp, b->slots * 82, KEY, 16, name, 16, 14, IV, 8, mix, count);
+}
+
+static uint32_t find_mix_in(const struct box *b, size_t i, uint8_t *mix, size_t *count)
+{
+    return securestore_find_mix(b->kv, b->slots * 584, b->rbp, b->slots * 82, KEY, 16, i, mix, SECURESTORE_MIX_MAX, count);
+}
+
+static void work_store_mix(const void *of)
+{
+    const struct box *b = (const struct box *)of;
+    store_mix_in(b, b->slots - 1);
+}
+
+static void work_get_mix(const void *of)
+{
+    const struct box *b = (const struct box *)of;
+    uint8_t name[16], mix[SECURESTORE_MIX_MAX];
+    size_t count;
+    mix_name(b->slots - 1, name);
+    securestore_get(b->kv, b->slots * 584, b->rbp, b->slots * 82, KEY, 16, name, 16, 0, mix, sizeof mix, &count);
+}
+
+static void work_find_mix(const void *of)
+{
+    const struct box *b = (const struct box *)of;
+    uint8_t mix[SECURESTORE_MIX_MAX];
+    size_t count;
+    find_mix_in(b, b->slots - 1, mix, &count);
+}
+
+static void mixes(void)
+{
+    static const char *const names[3] = {"encode_mix and store_mix", "get of one of them", "find_mix"};
+    static void (*const works[3])(const void *) = {work_store_mix, work_get_mix, work_find_mix};
+    static struct box boxes[MIX_COUNT];
+    struct measure all[3 * MIX_COUNT];
+    size_t i, j;
+    for (j = 0; j < MIX_COUNT; j++) {
+        uint8_t mix[SECURESTORE_MIX_MAX];
+        size_t count;
+        boxes[j] = fill(&STORES[1], MIXES[j]);
+        memset(boxes[j].kv, 0, MIXES[j] * 584);
+        memset(boxes[j].rbp, 0, MIXES[j] * 82);
+        for (i = 0; i < MIXES[j]; i++) {
+            must(store_mix_in(&boxes[j], i) == 0, "store_mix", STORES[1].name);
+        }
+        must(find_mix_in(&boxes[j], MIXES[j] - 1, mix, &count) == 0 && count == sizeof mix, "find_mix", STORES[1].name);
+        for (i = 0; i < 3; i++) {
+            all[i * MIX_COUNT + j].work = works[i];
+            all[i * MIX_COUNT + j].of = &boxes[j];
+        }
+    }
+    run(all, 3 * MIX_COUNT, 200);
+    printf("| mixes of 16 sends on a full card, microseconds |");
+    for (j = 0; j < MIX_COUNT; j++) {
+        printf(" %u |", (unsigned)MIXES[j]);
+    }
+    printf("\n|---|---|---|---|\n");
+    for (i = 0; i < 3; i++) {
+        printf("| %s |", names[i]);
+        for (j = 0; j < MIX_COUNT; j++) {
+            printf(" %.1f |", all[i * MIX_COUNT + j].best * 1e6);
+        }
+        printf("\n");
+    }
+    printf("\n");
+}
+
 int main(void)
 {
     peers_start();
     ciphers();
     growth();
     parts();
+    mixes();
     return 0;
 }
