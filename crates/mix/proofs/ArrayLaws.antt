@@ -12,7 +12,7 @@ use lib.ListN.{length, getD, set, take, drop, replicate, length-map, length-appe
 use lib.Seq.{drop-cons, set-at, take-at, length-take-le, length-front, take-all, take-length}
 use Rattle.buffers.specs.Bytes.{every}
 use Rattle.buffers.proofs.Split.{split, both, clash}
-use Rattle.spec.specs.Status.{refuseIf, onOk, Answer, bufferAnswer, bytesGiven}
+use Rattle.spec.specs.Status.{refuseIf, onOk, Answer, bufferAnswer}
 use Rattle.spec.proofs.Status.{all-passed}
 use Rattle.spec.proofs.First.{every-index, index-every}
 use Rattle.mix.specs.Range as range
@@ -28,7 +28,7 @@ use Rattle.mix.specs.declared.monitor.MixAnswer.{MixAnswer}
 use Rattle.mix.proofs.Parts.{valid-parts}
 use Rattle.mix.proofs.MixLaws.{mix-range-to, mix-range-of, decode-done, decode-refused, decode-valid, valid-decode, decode-exact, encode-exact}
 
--- one more element behind the front that is bytesGiven
+-- one more element behind the front that is written
 pub front-more : {A : Type 0} (front d : List A) (x : A) (i : ℕ) → length front ≡ i → i < length d
     → set (front ++ drop i d) i x ≡ (front ++ (x ∷ [])) ++ drop (suc i) d
 front-more front d x i h k =
@@ -68,7 +68,7 @@ module _ (ts : List ℕ) (ls ps : List Float) (k : length ls ≡ length ts) (j :
       let e = length-take-le i ps (omega arith) in
       from-length (take i ts) (take i ls) (take i ps) (b ∙ sym a) (e ∙ sym a) ∙ a
 
-  -- the next send is bytesGiven
+  -- the next send is written
   pub send-more : (was : List SendSlot) (x : SendSlot) → i < length ts → i < length d → x ≡ slotFrom ts ls ps i
       → was ≡ sendsFrom (take i ts) (take i ls) (take i ps) ++ drop i d
       → set was i x ≡ sendsFrom (take (suc i) ts) (take (suc i) ls) (take (suc i) ps) ++ drop (suc i) d
@@ -93,7 +93,7 @@ module _ {A B C : Type 0} (f : B → C) (g : A → B) where
   pub parts-length : (i : ℕ) (l : List A) → i ≤ length l → length (map f (map g (take i l))) ≡ i
   parts-length i l h = length-map (map g (take i l)) f ∙ length-map (take i l) g ∙ length-take-le i l h
 
-  -- the next send's part is bytesGiven
+  -- the next send's part is written
   pub part-more : (i : ℕ) (l : List A) (a : A) (d was : List C) (x : C) → i < length l → i < length d → x ≡ f (g (getD l i a))
       → was ≡ map f (map g (take i l)) ++ drop i d → set was i x ≡ map f (map g (take (suc i) l)) ++ drop (suc i) d
   part-more i l a d was x h k e w =
@@ -231,18 +231,18 @@ abbrev held : SendSlot → AuxSend
 held s = s .send
 
 -- a send, of the list and with what stands behind it
-from-at : (i : ℕ) (ts : List ℕ) (ls ps : List Float) → i < length ts → length ls ≡ length ts → length ps ≡ length ts
-    → getD (sendsFrom ts ls ps) i muted .send ≡ sendFrom (getD ts i 0) (getD ls i range.zero) (getD ps i range.zero)
-from-at i [] ls ps h k j = absurd (omega (arith, h))
-from-at i (t ∷ ts) [] ps h k j = absurd (omega (arith, k))
-from-at i (t ∷ ts) (l ∷ ls) [] h k j = absurd (omega (arith, j))
-from-at zero (t ∷ ts) (l ∷ ls) (p ∷ ps) h k j = refl
-from-at (suc i) (t ∷ ts) (l ∷ ls) (p ∷ ps) h k j = from-at i ts ls ps (omega (arith, h)) (omega (arith, k)) (omega (arith, j))
+from-at : (i : ℕ) (ts : List ℕ) (ls ps : List Float) (d : SendSlot) → i < length ts → length ls ≡ length ts → length ps ≡ length ts
+    → getD (sendsFrom ts ls ps) i d .send ≡ sendFrom (getD ts i 0) (getD ls i range.zero) (getD ps i range.zero)
+from-at i [] ls ps d h k j = absurd (omega (arith, h))
+from-at i (t ∷ ts) [] ps d h k j = absurd (omega (arith, k))
+from-at i (t ∷ ts) (l ∷ ls) [] d h k j = absurd (omega (arith, j))
+from-at zero (t ∷ ts) (l ∷ ls) (p ∷ ps) d h k j = refl
+from-at (suc i) (t ∷ ts) (l ∷ ls) (p ∷ ps) d h k j = from-at i ts ls ps d (omega (arith, h)) (omega (arith, k)) (omega (arith, j))
 
-send-at : (i : ℕ) (ts : List ℕ) (ls ps : List Float) (rest : List SendSlot) → i < length ts → length ls ≡ length ts → length ps ≡ length ts
-    → getD (sendsFrom ts ls ps ++ rest) i muted .send ≡ sendFrom (getD ts i 0) (getD ls i range.zero) (getD ps i range.zero)
-send-at i ts ls ps rest h k j =
-    ap held (List·getD-append (sendsFrom ts ls ps) rest muted i (omega (arith, from-length ts ls ps k j))) ∙ from-at i ts ls ps h k j
+send-at : (i : ℕ) (ts : List ℕ) (ls ps : List Float) (rest : List SendSlot) (d : SendSlot) → i < length ts → length ls ≡ length ts → length ps ≡ length ts
+    → getD (sendsFrom ts ls ps ++ rest) i d .send ≡ sendFrom (getD ts i 0) (getD ls i range.zero) (getD ps i range.zero)
+send-at i ts ls ps rest d h k j =
+    ap held (List·getD-append (sendsFrom ts ls ps) rest d i (omega (arith, from-length ts ls ps k j))) ∙ from-at i ts ls ps d h k j
 
 arrays-back : (ts : List ℕ) (ls ps : List Float) → length ls ≡ length ts → length ps ≡ length ts → every (λ t. leb t 2) ts ≡ true
     → (map sendTag (map held (sendsFrom ts ls ps)) ≡ ts)
@@ -288,7 +288,7 @@ module _ (session : ℕ) (ts : List ℕ) (ls ps : List Float) where
     mix-in = record {
       count = r .few;
       sends = λ i h.
-          rw (send-at i ts ls ps (replicate (16 - length ts) muted) h (r .same-levels) (r .same-pans))
+          rw (send-at i ts ls ps (replicate (16 - length ts) muted) muted h (r .same-levels) (r .same-pans))
           (parts-in (getD ls i range.zero) (getD ps i range.zero) (getD ts i 0) (r .known i h) (r .level i h) (r .pan i h));
     }
 
@@ -328,7 +328,7 @@ module _ (session : ℕ) (ts : List ℕ) (ls ps : List Float) where
         let known : (i : ℕ) → i < length ts → getD ts i 0 ≤ 2 = λ i h. leb-true (getD ts i 0) 2 (every-index (λ t. leb t 2) ts 0 tags i h) in
         let r = mix-range-to m (not-false (mixInRange m) (p .1 .1 .1 .1 .1 .0)) in
         let sends : (i : ℕ) → i < length ts → SendInRange (sendFrom (getD ts i 0) (getD ls i range.zero) (getD ps i range.zero))
-        = λ i h. rw (send-at i ts ls ps (replicate (16 - length ts) muted) h k j) at (r .sends i h) in
+        = λ i h. rw (send-at i ts ls ps (replicate (16 - length ts) muted) muted h k j) at (r .sends i h) in
         record {
           same-levels = k;
           same-pans = j;
@@ -339,15 +339,13 @@ module _ (session : ℕ) (ts : List ℕ) (ls ps : List Float) where
         }
 
     decode-back : SendsFit session ls ps → ArraysInRange ts ls ps → (a : SendArrays) → ArraysSized a
-        → decodeSends (bytesGiven (encodeSends session ts ls ps buf)) a ≡ given session ts ls ps a
+        → decodeSends (mixBytes (mixFrom session ts ls ps)) a ≡ given session ts ls ps a
     unfolding mixFrom
     decode-back f r a s =
         let m = mixFrom session ts ls ps in
         let b = mixBytes m in
         let read = sym (decode-exact .gives m (mix-fits r f) (mix-in r)) in
-        ap (λ (e : Answer). decodeSends (bytesGiven e) a) (encode-gives r)
-        ∙ ap (λ (l : List ℕ). decodeSends l a) (take-at b (drop (length b) buf) (length b) refl)
-        ∙ is-spread b a (s .tags) (s .levels) (s .pans) _ read refl
+        is-spread b a (s .tags) (s .levels) (s .pans) _ read refl
         ∙ ap {B = DecodedSends} (λ (x : SendArrays). record { status = 0; session = session; count = length ts; arrays = x }) (arrays-given r a)
 
 -- ---- refusals
@@ -403,7 +401,7 @@ sends-exact = record {
   level = λ l p. refl;
   level-pan = λ l p. refl;
   header = λ session ts ls ps. (refl, refl);
-  sends = λ session ts ls ps i h k l. send-at i ts ls ps (replicate (16 - length ts) muted) l h k;
+  sends = λ session ts ls ps i d h k l. send-at i ts ls ps (replicate (16 - length ts) muted) d l h k;
   short = encode-short;
   other-levels = levels-refused;
   other-pans = pans-refused;
@@ -415,5 +413,5 @@ sends-exact = record {
     λ r. ap (λ (e : Answer). e .status) (encode-gives session ts ls ps buf h r),
   );
   gives = encode-gives;
-  back = λ session ts ls ps buf a h f r s. decode-back session ts ls ps buf h f r a s;
+  back = λ session ts ls ps a f r s. decode-back session ts ls ps (replicate 153 0) (omega arith) f r a s;
 }

@@ -18,7 +18,7 @@ use lib.IntN.{ℤ, pos, negsuc}
 use lib.Ieee.{Float, nan, inf, fin, binary32, up, down, fits, toBits, ofBits}
 use lib.ListN.{length, getD, take, drop, replicate}
 use Rattle.buffers.specs.Bytes.{every, leBytes, u32At}
-use Rattle.spec.specs.Status.{isListed, Answer, bytesGiven}
+use Rattle.spec.specs.Status.{isListed, Answer}
 use Rattle.spec.specs.Name.{Name}
 use Rattle.spec.specs.Area.{kvFormat, rbpFormat, slotHolder, slotCount, slots, sized, intact}
 use Rattle.spec.specs.Interleaving.{Outcome}
@@ -353,8 +353,9 @@ pub record SendsExact : Type 0 where
   pub level-pan : (l p : Float) → sendFrom 2 l p ≡ LevelPan l p
   pub header : (session : ℕ) (tags : List ℕ) (levels pans : List Float)
       → let m = mixFrom session tags levels pans in (m .«session_id» ≡ session) × (m .count ≡ length tags)
-  pub sends : (session : ℕ) (tags : List ℕ) (levels pans : List Float) (i : ℕ) → length levels ≡ length tags → length pans ≡ length tags → i < length tags
-      → getD (mixFrom session tags levels pans .sends) i (record { send = Muted }) .send ≡ sendFrom (getD tags i 0) (getD levels i zero) (getD pans i zero)
+  pub sends : (session : ℕ) (tags : List ℕ) (levels pans : List Float) (i : ℕ) (d : SendSlot)
+      → length levels ≡ length tags → length pans ≡ length tags → i < length tags
+      → getD (mixFrom session tags levels pans .sends) i d .send ≡ sendFrom (getD tags i 0) (getD levels i zero) (getD pans i zero)
   -- arrays are encoded exactly where they lie in range, as the mix that they are
   pub condition : (session : ℕ) (tags : List ℕ) (levels pans : List Float) (buf : List ℕ) → 153 ≤ length buf
       → (encodeSends session tags levels pans buf .status ≡ 0) ↔ ArraysInRange tags levels pans
@@ -371,9 +372,9 @@ pub record SendsExact : Type 0 where
       → length levels ≡ length tags → length pans ≡ length tags → (¬ ArraysInRange tags levels pans)
       → encodeSends session tags levels pans buf ≡ refusing 20 buf
   -- and the bytes decode to them
-  pub back : (session : ℕ) (tags : List ℕ) (levels pans : List Float) (buf : List ℕ) (a : SendArrays) → 153 ≤ length buf
+  pub back : (session : ℕ) (tags : List ℕ) (levels pans : List Float) (a : SendArrays)
       → SendsFit session levels pans → ArraysInRange tags levels pans → ArraysSized a
-      → decodeSends (bytesGiven (encodeSends session tags levels pans buf)) a ≡ given session tags levels pans a
+      → decodeSends (mixBytes (mixFrom session tags levels pans)) a ≡ given session tags levels pans a
   -- 1 for a length, then 20
   pub unsized : (b : List ℕ) (a : SendArrays) → (¬ ArraysSized a) → decodeSends b a ≡ record { status = 1; session = 0; count = 0; arrays = a }
   pub no-mix : (b : List ℕ) (a : SendArrays) → ArraysSized a → decodeMix b .status ≢ 0
