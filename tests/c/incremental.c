@@ -5,12 +5,12 @@
 #include <stdlib.h>
 #include <string.h>
 
+#include "expect.h"
 #include "securestore.h"
 
 #define SLOTS 3u
 #define CARD (SLOTS * SECURESTORE_KV_SLOT_SIZE)
 #define CHIP (SLOTS * SECURESTORE_RBP_SLOT_SIZE)
-#define COUNT_OF(array) (sizeof(array) / sizeof(array)[0])
 
 /* All that is lent to be written, with bytes between that no call may touch, and room for a card, a chip and a staging buffer that are too long. Each
  * stands at an odd offset, since none needs an alignment. */
@@ -33,25 +33,6 @@ static const uint32_t FLAGS[] = {0, 1, 2, 3, 4, 5, 6, 7, 12, 13, 14, 15};
 
 /* Numbers for a field of the handle: about its bounds, and where a narrower number would lose bits. */
 static const uint32_t FIELD[] = {0, 1, 2, 63, 64, 65, 255, 256, 320, 479, 480, 481, 65535, 65536, 65600, 0x7fffffffu, 0x80000000u, 0xffffffbfu, 0xffffffffu};
-
-/* Answers that were not as expected. A test passes if it has none, and tells the first few. */
-static unsigned wrong;
-#define TOLD 5u
-
-static void expect(int holds, const char *what)
-{
-    if (!holds && wrong++ < TOLD) {
-        printf("failed: %s\n", what);
-    }
-}
-
-static void expect_status(securestore_status status, securestore_status want, const char *what)
-{
-    expect(status == want, what);
-    if (status != want && wrong <= TOLD) {
-        printf("  answered %u (%s), not %u\n", (unsigned)status, securestore_status_text(status), (unsigned)want);
-    }
-}
 
 static uint32_t field(size_t at)
 {
@@ -616,18 +597,6 @@ int main(void)
     static void (*const tests[])(void) = {test_handle_bytes, test_handle_fields, test_start_refusals, test_far_too_long, test_add, test_add_lengths,
                                           test_any_handle, test_whole_handles, test_finalize_lengths, test_finalize_order, test_divided, test_short,
                                           test_card_as_it_then_is, test_left_over, test_again, test_changed_between, test_two_at_once, test_inputs};
-    unsigned passed = 0, failed = 0;
-    size_t i;
     make_inputs();
-    for (i = 0; i < COUNT_OF(tests); i++) {
-        wrong = 0;
-        tests[i]();
-        if (wrong == 0) {
-            passed++;
-        } else {
-            failed++;
-        }
-    }
-    printf("%u passed, %u failed\n", passed, failed);
-    return failed != 0;
+    return run_tests(tests, COUNT_OF(tests));
 }

@@ -1,9 +1,9 @@
 /* Holds what securestore.h says of mixes against the library: the bytes, the ranges of level and pan at every edge, every refusal in its order and what it
  * leaves, that store_mix is one securestore_set, and that find_mix answers as going over the records by iterator_next, get and decode_mix does.
  * Compiled as C99 and as C++. The last line is 'N passed, M failed'. */
-#include <stdio.h>
 #include <string.h>
 
+#include "expect.h"
 #include "securestore.h"
 
 #define SLOTS 5u
@@ -11,7 +11,6 @@
 #define CHIP (SLOTS * SECURESTORE_RBP_SLOT_SIZE)
 #define BUF (2 * SECURESTORE_MIX_MAX)
 #define ENTRIES 20u
-#define COUNT_OF(array) (sizeof(array) / sizeof(array)[0])
 
 #if SECURESTORE_MIX_MAX != SECURESTORE_MIX_HEADER + SECURESTORE_MIX_SENDS_MAX * SECURESTORE_SEND_SIZE || SECURESTORE_SEND_LEVEL_PAN != 2
 #error "the sizes of a mix do not fit"
@@ -34,25 +33,6 @@ static const uint8_t IV[9] = {'t', 'h', 'e', ' ', 'i', 'v', ' ', '8', '!'};
 
 /* All flags that a set accepts. */
 static const uint32_t FLAGS[] = {0, 1, 2, 3, 4, 5, 6, 7, 12, 13, 14, 15};
-
-/* Answers that were not as expected. A test passes if it has none, and tells the first few. */
-static unsigned wrong;
-#define TOLD 5u
-
-static void expect(int holds, const char *what)
-{
-    if (!holds && wrong++ < TOLD) {
-        printf("failed: %s\n", what);
-    }
-}
-
-static void expect_status(securestore_status status, securestore_status want, const char *what)
-{
-    expect(status == want, what);
-    if (status != want && wrong <= TOLD) {
-        printf("  answered %u (%s), not %u\n", (unsigned)status, securestore_status_text(status), (unsigned)want);
-    }
-}
 
 static uint32_t next_random(void)
 {
@@ -1001,17 +981,5 @@ int main(void)
                                           test_sweep, test_unused_bytes, test_one_encoding, test_store_is_set, test_other_names, test_store_order,
                                           test_find_lengths, test_find_kinds, test_find_by_hand, test_stored_is_found, test_chip_alone, test_power,
                                           test_doubled, test_ways_out, test_planted, test_session_on_card};
-    unsigned passed = 0, failed = 0;
-    size_t i;
-    for (i = 0; i < COUNT_OF(tests); i++) {
-        wrong = 0;
-        tests[i]();
-        if (wrong == 0) {
-            passed++;
-        } else {
-            failed++;
-        }
-    }
-    printf("%u passed, %u failed\n", passed, failed);
-    return failed != 0;
+    return run_tests(tests, COUNT_OF(tests));
 }

@@ -183,26 +183,13 @@ module _ (b : List ℕ) (a : SendArrays) where
 
 -- one send
 module _ (l p : Float) where
-  tag-back : (t : ℕ) → t ≤ 2 → sendTag (sendFrom t l p) ≡ t
+  send-back : (t : ℕ) → t ≤ 2
+      → (sendTag (sendFrom t l p) ≡ t) × (sendLevel (sendFrom t l p) ≡ keptLevel t l) × (sendPan (sendFrom t l p) ≡ keptPan t p)
   unfolding sendFrom
-  tag-back zero h = refl
-  tag-back (suc zero) h = refl
-  tag-back (suc (suc zero)) h = refl
-  tag-back (suc (suc (suc t))) h = absurd (omega (arith, h))
-
-  level-back : (t : ℕ) → t ≤ 2 → sendLevel (sendFrom t l p) ≡ keptLevel t l
-  unfolding sendFrom
-  level-back zero h = refl
-  level-back (suc zero) h = refl
-  level-back (suc (suc zero)) h = refl
-  level-back (suc (suc (suc t))) h = absurd (omega (arith, h))
-
-  pan-back : (t : ℕ) → t ≤ 2 → sendPan (sendFrom t l p) ≡ keptPan t p
-  unfolding sendFrom
-  pan-back zero h = refl
-  pan-back (suc zero) h = refl
-  pan-back (suc (suc zero)) h = refl
-  pan-back (suc (suc (suc t))) h = absurd (omega (arith, h))
+  send-back zero h = (refl, refl, refl)
+  send-back (suc zero) h = (refl, refl, refl)
+  send-back (suc (suc zero)) h = (refl, refl, refl)
+  send-back (suc (suc (suc t))) h = absurd (omega (arith, h))
 
   parts-in : (t : ℕ) → t ≤ 2 → (t ≢ 0 → levelInRange l ≡ true) → (t ≡ 2 → panInRange p ≡ true) → SendInRange (sendFrom t l p)
   unfolding sendFrom
@@ -253,9 +240,9 @@ arrays-back (t ∷ ts) [] ps k j e = absurd (omega (arith, k))
 arrays-back (t ∷ ts) (l ∷ ls) [] k j e = absurd (omega (arith, j))
 arrays-back (t ∷ ts) (l ∷ ls) (p ∷ ps) k j e =
     let b = both (leb t 2) (every (λ t. leb t 2) ts) e in
-    let h = leb-true t 2 (b .0) in
+    let x = send-back l p t (leb-true t 2 (b .0)) in
     let r = arrays-back ts ls ps (omega (arith, k)) (omega (arith, j)) (b .1) in
-    (rw (tag-back l p t h, r .0), rw (level-back l p t h, r .1), rw (pan-back l p t h, r .2))
+    (rw (x .0, r .0), rw (x .1, r .1), rw (x .2, r .2))
 
 abbrev slotFits : SendSlot → Bool
 slotFits s = FloatsFit (s .send)
