@@ -41,6 +41,11 @@ put-next d front s at h =
     ap (λ (k : ℕ). drop (k + length s) (front ++ drop at d)) (sym h) ∙ drop-append-add front (drop at d) (length s) ∙ drop-drop (length s) at d in
     rw (take-at front (drop at d) at h, e) (sym (append-assoc front s (drop (at + length s) d)))
 
+-- the same where the buffer was written before
+pub behind : (d front s was is : List ℕ) (at : ℕ) → was ≡ front ++ drop at d → is ≡ putAt was at s → length front ≡ at
+    → is ≡ (front ++ s) ++ drop (at + length s) d
+behind d front s was is at p q h = q ∙ ap (λ (l : List ℕ). putAt l at s) p ∙ put-next d front s at h
+
 -- a part that begins at the front, as the code has it
 pub front : (n : ℕ) (l : List ℕ) → take (n - 0) (drop 0 l) ≡ take n l
 front n l = let e : n - 0 ≡ n = omega arith in rw e

@@ -1,5 +1,5 @@
 -- A file written field by field. Assumes nothing.
-use mathlib.Core.Path.{_≡_, ap, _∙_}
+use mathlib.Core.Path.{_≡_}
 use mathlib.Core.Bool.{not}
 use mathlib.Core.List.{List, _++_}
 use Prim.Native.Nat.{ℕ, _+_, _-_, _≤_, _<_}
@@ -7,17 +7,10 @@ use borrow.Author.Tests.{le-leb, lt-leb}
 use lib.Dec.{leb}
 use lib.ListN.{length, take, drop, length-append}
 use Rattle.spec.specs.Status.{ok, refuseIf, firstOf}
-use Rattle.buffers.specs.Bytes.{putAt}
-use Rattle.buffers.proofs.Lists.{put-next}
 use Rattle.store.proofs.Slices.{front-part}
 use Rattle.keys.specs.KeyFile.{keyFileHeader, formatKeyFile}
 use Rattle.keys.specs.Calls.{formatTests}
 use Rattle.keys.specs.declared.key_file.KeyAttributes.{KeyAttributes}
-
--- the next field, put behind those that are there
-pub behind : (d front s was is : List ℕ) (at : ℕ) → was ≡ front ++ drop at d → is ≡ putAt was at s → length front ≡ at
-    → is ≡ (front ++ s) ++ drop (at + length s) d
-behind d front s was is at p q h = q ∙ ap (λ (l : List ℕ). putAt l at s) p ∙ put-next d front s at h
 
 pub file-length : (a : KeyAttributes) (m : List ℕ) → length (formatKeyFile a m) ≡ 36 + length m
 unfolding formatKeyFile keyFileHeader

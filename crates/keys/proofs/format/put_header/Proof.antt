@@ -5,7 +5,7 @@ use lib.ListN.{drop}
 use borrow.Author.Needs.{needs}
 use Rattle.buffers.specs.Bytes.{leBytes}
 use Rattle.keys.specs.KeyFile.{mark, keyFileHeader}
-use Rattle.keys.proofs.Written.{behind}
+use Rattle.buffers.proofs.Lists.{behind}
 use Rattle.keys.proofs.format.put_header.Statement.{statement}
 use Rattle.keys.proofs.format.put_header.Tie as tie
 

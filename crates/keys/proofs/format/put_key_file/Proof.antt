@@ -3,7 +3,7 @@ use mathlib.Core.Path.{refl}
 use lib.ListN.{length}
 use borrow.Author.Needs.{needs}
 use Rattle.keys.specs.KeyFile.{keyFileHeader, formatKeyFile}
-use Rattle.keys.proofs.Written.{behind}
+use Rattle.buffers.proofs.Lists.{behind}
 use Rattle.keys.proofs.format.put_key_file.Statement.{statement}
 use Rattle.keys.proofs.format.put_key_file.Tie as tie
 
