@@ -1,0 +1,13 @@
+pub mod Coded
+pub mod Answered
+pub mod Commands
+pub mod Gathering
+pub mod Fields
+pub mod HeaderLaws
+pub mod Headers
+pub mod LineLaws
+pub mod AnswerLaws
+pub mod ReplayLaws
+pub mod Example
+pub mod StreamLaws
+pub mod Theorems

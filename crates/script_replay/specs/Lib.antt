@@ -1,0 +1,4 @@
+pub mod Script
+pub mod Replay
+pub mod Stream
+pub mod Laws
