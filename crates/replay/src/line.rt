@@ -1,0 +1,82 @@
+// The next line, gathered from as many reads as it takes.
+use crate::stream;
+use crate::stream::BUFFER_SIZE;
+use crate::stream::Stream;
+use script_replay::gather;
+use script_replay::gather::HELD_SIZE;
+ghost use Rattle.replay.specs.Bounds.{Bounded, Gathers};
+
+// The first `len` bytes of a line are held, and whether its newline has come.
+pub struct Line {
+    pub stream: Stream,
+    pub len: usize,
+    pub whole: bool,
+}
+
+// More of it from what was read, or another read where that is used up.
+fn gather_some(
+    l: Line,
+    chunk: &mut [u8; BUFFER_SIZE],
+    answers: &[u8; BUFFER_SIZE],
+    line: &mut [u8; HELD_SIZE],
+) -> Line
+    requires { ⌜ Gathers l ⌝ }
+    ensures { λ r. ⌜ Gathers r ⌝ }
+{
+    let s = l.stream;
+    let from = s.from;
+    let to = s.to;
+    if to <= from {
+        return Line {
+            stream: stream::refill(s, chunk, answers),
+            len: l.len,
+            whole: false,
+        };
+    }
+    let all: &[u8] = chunk;
+    let gathered = gather::gather(&all[from..to], l.len, line);
+    Line {
+        stream: Stream {
+            input: s.input,
+            output: s.output,
+            from: from + gathered.taken,
+            to,
+            used: s.used,
+            ended: s.ended,
+            status: s.status,
+        },
+        len: gathered.len,
+        whole: gathered.whole,
+    }
+}
+
+// Up to a newline or the end of the input. A proved loop has to end, and nothing says that a line does: so it counts its turns down, from a number that
+// no run uses up.
+pub(crate) fn next_line(
+    s: Stream,
+    chunk: &mut [u8; BUFFER_SIZE],
+    answers: &[u8; BUFFER_SIZE],
+    line: &mut [u8; HELD_SIZE],
+) -> Line
+    requires { ⌜ Bounded s ⌝ }
+    ensures { λ r. ⌜ Gathers r ⌝ }
+{
+    let mut l = Line {
+        stream: s,
+        len: 0,
+        whole: false,
+    };
+    let mut turns = u64::MAX;
+    while 0 < turns && !l.whole && !l.stream.ended {
+        l = gather_some(l, chunk, answers, line);
+        turns -= 1;
+    }
+    l
+}
+
+impl Line {
+    // Whether there is one: the last may lack its newline. What came before a read that failed is none.
+    pub(crate) fn is_there(self) -> bool {
+        self.whole || 0 < self.len && self.stream.status == stream::OK
+    }
+}
