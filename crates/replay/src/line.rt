@@ -4,7 +4,9 @@ use crate::stream::BUFFER_SIZE;
 use crate::stream::Stream;
 use script_replay::gather;
 use script_replay::gather::HELD_SIZE;
-ghost use Rattle.replay.specs.Bounds.{Bounded, Gathers};
+ghost use mathlib.Core.Path.{_≡_};
+ghost use lib.ListN.{length};
+ghost use Rattle.replay.specs.Turns.{Bounded, Gathers, Taken};
 
 // The first `len` bytes of a line are held, and whether its newline has come.
 pub struct Line {
@@ -13,28 +15,16 @@ pub struct Line {
     pub whole: bool,
 }
 
-// More of it from what was read, or another read where that is used up.
-fn gather_some(
-    l: Line,
-    chunk: &mut [u8; BUFFER_SIZE],
-    answers: &[u8; BUFFER_SIZE],
-    line: &mut [u8; HELD_SIZE],
-) -> Line
-    requires { ⌜ Gathers l ⌝ }
+// More of it from what was read.
+fn take_part(l: Line, chunk: &[u8], line: &mut [u8; HELD_SIZE]) -> Line
+    requires { ⌜ Gathers l × (length (now chunk) ≡ 65536) ⌝ }
     ensures { λ r. ⌜ Gathers r ⌝ }
+    ensures { λ r. ⌜ Taken l r (now (chunk .entry)) (now (line .entry)) (now (line .exit)) ⌝ }
 {
     let s = l.stream;
     let from = s.from;
     let to = s.to;
-    if to <= from {
-        return Line {
-            stream: stream::refill(s, chunk, answers),
-            len: l.len,
-            whole: false,
-        };
-    }
-    let all: &[u8] = chunk;
-    let gathered = gather::gather(&all[from..to], l.len, line);
+    let gathered = gather::gather(&chunk[from..to], l.len, line);
     Line {
         stream: Stream {
             input: s.input,
@@ -48,6 +38,27 @@ fn gather_some(
         len: gathered.len,
         whole: gathered.whole,
     }
+}
+
+// From what was read, or another read where that is used up.
+fn gather_some(
+    l: Line,
+    chunk: &mut [u8; BUFFER_SIZE],
+    answers: &[u8; BUFFER_SIZE],
+    line: &mut [u8; HELD_SIZE],
+) -> Line
+    requires { ⌜ Gathers l ⌝ }
+    ensures { λ r. ⌜ Gathers r ⌝ }
+{
+    let s = l.stream;
+    if s.to <= s.from {
+        return Line {
+            stream: stream::refill(s, chunk, answers),
+            len: l.len,
+            whole: false,
+        };
+    }
+    take_part(l, chunk, line)
 }
 
 // Up to a newline or the end of the input. A proved loop has to end, and nothing says that a line does: so it counts its turns down, from a number that

@@ -11,8 +11,10 @@ use script_replay::header;
 use script_replay::header::MAX_SLOTS;
 use script_replay::step;
 ghost use Prim.Native.Nat.{_≤_};
-ghost use lib.ListN.{length};
-ghost use Rattle.replay.specs.Bounds.{Bounded, Gathers};
+ghost use mathlib.Core.Path.{_≡_};
+ghost use lib.ListN.{take};
+ghost use Rattle.script_replay.specs.Replay.{«step» as Replay·step};
+ghost use Rattle.replay.specs.Turns.{Bounded, Gathers, Appended};
 
 const KV_SLOT: usize = 584;
 
@@ -29,6 +31,8 @@ fn play_line(
 ) -> Stream
     requires { ⌜ Gathers l ⌝ }
     ensures { λ r. ⌜ Bounded r ⌝ }
+    ensures { λ r. ⌜ Appended (l .stream) r (now (answers .entry)) (now (answers .exit)) (Replay·step (now (kv .entry)) (now (rbp .entry)) (now («device_key» .entry)) (take (l .len) (now (line .entry))) .answer) ⌝ }
+    ensures { λ _. ⌜ record { kv = now (kv .exit); rbp = now (rbp .exit) } ≡ Replay·step (now (kv .entry)) (now (rbp .entry)) (now («device_key» .entry)) (take (l .len) (now (line .entry))) .after ⌝ }
 {
     let mut answer = [0u8; ANSWER_SIZE];
     let len = l.len;

@@ -3,9 +3,10 @@
 use buffers::parts;
 use script_replay::answer::ANSWER_SIZE;
 ghost use mathlib.Core.Path.{_≡_};
+ghost use mathlib.Core.Logic.{_⊎_};
 ghost use Prim.Native.Nat.{_≤_};
 ghost use lib.ListN.{length};
-ghost use Rattle.replay.specs.Bounds.{Bounded};
+ghost use Rattle.replay.specs.Turns.{Bounded, Appended};
 
 pub const BUFFER_SIZE: usize = 65536;
 
@@ -118,7 +119,7 @@ pub(crate) fn refill(
 // Room for one more answer.
 fn make_room(s: Stream, answers: &[u8; BUFFER_SIZE]) -> Stream
     requires { ⌜ Bounded s ⌝ }
-    ensures { λ r. ⌜ Bounded r × (r .used ≤ 64512) ⌝ }
+    ensures { λ r. ⌜ Bounded r × (r .used ≤ 64512) × ((r .used ≡ s .used) ⊎ (r .used ≡ 0)) ⌝ }
 {
     if BUFFER_SIZE - ANSWER_SIZE < s.used {
         return flush(s, answers);
@@ -130,6 +131,7 @@ fn make_room(s: Stream, answers: &[u8; BUFFER_SIZE]) -> Stream
 pub(crate) fn put(s: Stream, answers: &mut [u8; BUFFER_SIZE], answer: &[u8]) -> Stream
     requires { ⌜ Bounded s × (length (now answer) ≤ 1024) ⌝ }
     ensures { λ r. ⌜ Bounded r ⌝ }
+    ensures { λ r. ⌜ Appended s r (now (answers .entry)) (now (answers .exit)) (now (answer .entry)) ⌝ }
 {
     let ready = make_room(s, answers);
     let used = ready.used;

@@ -7,6 +7,7 @@ use lib.ListN.{length, getD, take, drop, length-append}
 use Rattle.buffers.specs.Bytes.{zeros, putAt}
 use Rattle.buffers.proofs.Lists.{front, in-front, behind}
 use Rattle.buffers.proofs.Split.{split}
+use Rattle.store.proofs.Slices.{front-part}
 use Rattle.text.specs.Parts.{tab, newline}
 use Rattle.text.specs.Hex.{hexText}
 use Rattle.text.specs.Decimal.{decimalText}
@@ -59,6 +60,10 @@ written t u out last r e p q = rw (sym e) (p, q)
 -- what was written lies within its buffer
 pub within : (t out last : List ℕ) (r : ℕ) → r ≡ length t → last ≡ atFront t out → r ≤ length last
 within t out last r p q = omega (arith, p, ap (λ (l : List ℕ). length l) q, length-append t (drop (length t) out))
+
+-- its part of the buffer, as the code lends it
+pub answer-part : (t out last : List ℕ) (n : ℕ) → n ≡ length t → last ≡ atFront t out → take (n - 0) (drop 0 last) ≡ t
+answer-part t out last n p q = rw q (front-part t (drop (length t) out) n (sym p))
 
 pub told : (o : Played) (s : Areas) (out last : List ℕ) (r : ℕ)
     → (r ≡ length (o .answer)) × ((last ≡ atFront (o .answer) out) × (s ≡ o .after))

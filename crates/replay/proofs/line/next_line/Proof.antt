@@ -1,6 +1,6 @@
 -- `replay::line::next_line` keeps within its buffers, and its turns run out.
 use borrow.Author.Needs.{needs}
-use Rattle.replay.specs.Bounds.{Gathers}
+use Rattle.replay.specs.Turns.{Gathers}
 use Rattle.replay.proofs.line.next_line.Statement.{statement}
 use Rattle.replay.proofs.line.next_line.Tie as tie
 

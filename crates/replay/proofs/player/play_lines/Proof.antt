@@ -1,8 +1,9 @@
 -- `replay::player::play_lines` keeps within its buffers, and its turns run out.
 use mathlib.Core.Path.{_≡_}
+use native.Mathlib.Omega.{arith}
 use lib.ListN.{length}
 use borrow.Author.Needs.{needs}
-use Rattle.replay.specs.Bounds.{Gathers}
+use Rattle.replay.specs.Turns.{Gathers}
 use Rattle.replay.proofs.player.play_lines.Statement.{statement}
 use Rattle.replay.proofs.player.play_lines.Tie as tie
 
@@ -34,7 +35,10 @@ loop-less : tie.Need-loop-less Inv-loop μ-loop
 loop-less c = search needs
 
 loop-again : tie.Need-loop-again Inv-loop μ-loop
-loop-again c = search needs
+loop-again c =
+    let played = c .before .before .before .before .before .before .before .before in
+    let inv = played .before .before .before .before .before .before .before .before .loop .inv in
+    (c .next-line2 .ensures, omega arith, omega arith)
 
 same-length : tie.Need-same-length Inv-loop μ-loop
 same-length c = search needs

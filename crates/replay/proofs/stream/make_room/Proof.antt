@@ -1,0 +1,22 @@
+-- `replay::stream::make_room`: the answers are written where there is no room for one more.
+use mathlib.Core.Path.{refl}
+use mathlib.Core.Logic.{inl, inr}
+use native.Mathlib.Omega.{arith}
+use borrow.Author.Needs.{needs}
+use Rattle.replay.proofs.stream.make_room.Statement.{statement}
+use Rattle.replay.proofs.stream.make_room.Tie as tie
+
+sub-if1 : tie.Need-sub-if1
+sub-if1 c = search needs
+
+flush-requires : tie.Need-flush-requires
+flush-requires c κs = search needs
+
+returns : tie.Need-returns
+returns c = (c .flush .ensures .0, omega (arith, c .flush .ensures .1), inr (c .flush .ensures .1))
+
+returns-2 : tie.Need-returns-2
+returns-2 c = (c .before .before .pre, c .if1 .left, inl refl)
+
+pub make-room-spec : {M : Type 1} → statement M
+make-room-spec = tie.close (tie.spec sub-if1 flush-requires returns returns-2)
