@@ -5,10 +5,11 @@ use std::thread;
 
 use reference::calls::Call;
 use reference::cards::World;
-use reference::ciphers::{self, Checked};
+use reference::ciphers;
 use reference::floats::Accepted;
 use reference::library::Library;
 use reference::rng::Rng;
+use reference::score::{coverage, in_parts, verdict, Score, THREADS};
 use reference::stories;
 use reference::tally::Tally;
 use reference::{
@@ -17,10 +18,6 @@ use reference::{
 };
 
 use crate::{long, openssl};
-
-const THREADS: u64 = 2;
-/// Mismatches told in full; the rest are only counted.
-const TOLD: usize = 3;
 
 pub struct Options {
     pub seed: u64,
@@ -32,34 +29,6 @@ pub struct Options {
     pub edges: PathBuf,
     /// Only the rules of levels and pans, on all patterns.
     pub all_floats: bool,
-}
-
-/// Counts of named checks.
-#[derive(Default)]
-pub struct Score {
-    pub passed: usize,
-    pub failed: usize,
-}
-
-impl Score {
-    fn check_all(&mut self, checks: Vec<(String, Checked)>) {
-        for (name, checked) in checks {
-            self.check(&name, checked);
-        }
-    }
-
-    fn check(&mut self, name: &str, checked: Checked) {
-        match checked {
-            Ok(note) => {
-                self.passed += 1;
-                println!("{}", format!("ok {name} {note}").trim_end());
-            }
-            Err(why) => {
-                self.failed += 1;
-                println!("FAILED {name} {why}");
-            }
-        }
-    }
 }
 
 pub fn run(library: &dyn Library, options: &Options) -> Score {
@@ -121,52 +90,13 @@ pub fn all_floats() -> Score {
     score
 }
 
-/// Runs `count` cases on a few threads: the tally, and what the cases that
-/// failed have to tell, in their order.
-fn in_parts(
-    count: u64,
-    case: &(dyn Fn(u64, &mut Tally) -> Option<String> + Sync),
-) -> (Tally, Vec<String>) {
-    let part = |first: u64| {
-        let mut tally = Tally::default();
-        let mut told = Vec::new();
-        for index in (first..count).step_by(THREADS as usize) {
-            if let Some(text) = case(index, &mut tally) {
-                told.push((index, text));
-            }
-        }
-        (tally, told)
-    };
-    let (mut tally, mut told) = (Tally::default(), Vec::new());
-    thread::scope(|scope| {
-        let parts: Vec<_> = (0..THREADS)
-            .map(|first| scope.spawn(move || part(first)))
-            .collect();
-        for handle in parts {
-            let (counts, texts) = handle.join().expect("no part panics");
-            tally.add(&counts);
-            told.extend(texts);
-        }
-    });
-    told.sort();
-    (tally, told.into_iter().map(|(_, text)| text).collect())
-}
-
-fn verdict(mismatches: &[String], passed: String) -> Checked {
-    if mismatches.is_empty() {
-        return Ok(passed);
-    }
-    let told: String = mismatches.iter().take(TOLD).cloned().collect();
-    Err(format!("{} mismatches\n{told}", mismatches.len()))
-}
-
 fn run_cards(library: &dyn Library, options: &Options, score: &mut Score) {
     let seed = options.seed;
     let world = match World::new(library, Rng::part(seed ^ 10 << 40, 0)) {
         Ok(world) => world,
         Err(why) => return score.check("old-cards", Err(why)),
     };
-    let (tally, mismatches) = in_parts(options.cards, &|index, tally| {
+    let (tally, mismatches) = in_parts(options.cards, Tally::add, &|index, tally| {
         let rng = Rng::part(seed ^ 11 << 40, index);
         let told = world.check(rng, library, tally)?;
         Some(format!("  card {index} of seed {seed}:\n    {told}\n"))
@@ -180,7 +110,7 @@ fn run_cards(library: &dyn Library, options: &Options, score: &mut Score) {
 
 fn run_divisions(library: &dyn Library, options: &Options, score: &mut Score) {
     let seed = options.seed;
-    let (tally, mismatches) = in_parts(options.divisions, &|index, tally| {
+    let (tally, mismatches) = in_parts(options.divisions, Tally::add, &|index, tally| {
         let rng = Rng::part(seed ^ 7 << 40, index);
         let told = divisions::check(rng, library, tally)?;
         Some(format!("  division {index} of seed {seed}:\n    {told}\n"))
@@ -196,21 +126,9 @@ fn run_divisions(library: &dyn Library, options: &Options, score: &mut Score) {
     );
 }
 
-/// No number may be missing, or be one that can't be answered.
-fn coverage(gaps: &[String]) -> Checked {
-    if gaps.is_empty() {
-        Ok(String::new())
-    } else {
-        Err(format!(
-            "missing, or not to be answered: {}",
-            gaps.join(", ")
-        ))
-    }
-}
-
 fn run_stories(library: &dyn Library, options: &Options, score: &mut Score) {
     let seed = options.seed;
-    let (tally, mismatches) = in_parts(options.stories, &|index, tally| {
+    let (tally, mismatches) = in_parts(options.stories, Tally::add, &|index, tally| {
         let story = generator::story(Rng::part(seed, index));
         let found = stories::check(&story, library, tally)?;
         let told = stories::report(&story, &found, library);
@@ -242,7 +160,7 @@ fn run_stories(library: &dyn Library, options: &Options, score: &mut Score) {
 
 fn run_lists(library: &dyn Library, options: &Options, score: &mut Score) {
     let seed = options.seed;
-    let (tally, mismatches) = in_parts(options.lists, &|index, tally| {
+    let (tally, mismatches) = in_parts(options.lists, Tally::add, &|index, tally| {
         let merge = lists::merge(Rng::part(!seed, index));
         lists::check(&merge, library, tally)?;
         let told = lists::report(&merge, library);
