@@ -36,6 +36,8 @@ pub mod orders;
 pub mod parsing;
 pub mod record;
 pub mod replay;
+#[cfg(test)]
+mod replay_impostors;
 pub mod rng;
 pub mod score;
 pub mod script;

@@ -464,6 +464,16 @@ fn stories() -> Vec<Edge> {
             "0\t\n0\t\n0\t01\n6\t\n0\t02\n",
         ),
         edge(
+            "names of either case",
+            with_two_places(&[
+                format!("set\ta\t0\t{IV}\t01"),
+                format!("set\tA\t4\t{IV}\t02"),
+                "get\ta".into(),
+                "get\tA".into(),
+            ]),
+            "0\t\n0\t\n0\t01\n0\t02\n",
+        ),
+        edge(
             "CR before each newline",
             format!("{KEY}\t1\nset\ta\r\t0\t{IV}\t\nget\ta\r\nget\ta\n"),
             "3\t\n3\t\n6\t\n",

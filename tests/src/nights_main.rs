@@ -238,7 +238,7 @@ fn run_nights(options: &Options, program: &Path, score: &mut Score) {
     let seed = options.seed;
     let shortened = AtomicUsize::new(0);
     let (tally, mismatches) = in_parts(options.nights, Tally::add, &|index, tally| {
-        let night = nights::night(Rng::part(seed ^ 12 << 40, index));
+        let night = nights::night(seed, index);
         let plays = |night: &[u8]| played(program, seed, index, night);
         let different = nights::check(&night, &plays, tally)?;
         if shortened.fetch_add(1, Ordering::Relaxed) >= SHORTENED {

@@ -80,7 +80,7 @@ pub struct Reply {
 }
 
 impl Reply {
-    fn without_bytes(verdict: Verdict) -> Reply {
+    pub fn without_bytes(verdict: Verdict) -> Reply {
         Reply {
             verdict,
             bytes: Vec::new(),
@@ -121,11 +121,14 @@ impl Player {
 
     /// The answer to a later line.
     pub fn play(&mut self, line: &[u8]) -> Reply {
-        let call = match self.call(line) {
-            Ok(call) => call,
-            Err(why) => return Reply::without_bytes(Verdict::Unread(why)),
-        };
-        let (answer, why) = calls::answer(&self.card, &self.chip, &call);
+        match self.call(line) {
+            Ok(call) => self.answer(&call),
+            Err(why) => Reply::without_bytes(Verdict::Unread(why)),
+        }
+    }
+
+    pub fn answer(&mut self, call: &Call) -> Reply {
+        let (answer, why) = calls::answer(&self.card, &self.chip, call);
         self.card = answer.card;
         self.chip = answer.chip;
         // Only a get returns bytes: as many as its count.
@@ -138,7 +141,11 @@ impl Player {
 
     /// What the line asks for.
     pub fn call(&self, line: &[u8]) -> Result<Call, Unreadable> {
-        let fields = fields(line)?;
+        self.asked(&fields(line)?)
+    }
+
+    /// The same of its fields, which are one at least.
+    pub fn asked(&self, fields: &[&[u8]]) -> Result<Call, Unreadable> {
         match (fields[0], &fields[1..]) {
             (b"set", [name, flags, iv, data]) => Ok(Call::Set {
                 key: self.key.clone(),
