@@ -13,6 +13,7 @@ use std::collections::BTreeMap;
 
 use crate::answer::Why;
 use crate::cast::{good_bytes, GOOD_FLAGS};
+use crate::record::DATA_MAX;
 use crate::replay::{self, Unreadable, Verdict, LINE_MAX};
 use crate::rng::Rng;
 use crate::show;
@@ -185,6 +186,43 @@ pub fn endless_night(mut rng: Rng) -> Vec<u8> {
         _ => lines.push(endless),
     }
     lines.join(&b'\n')
+}
+
+const FIRST: &[u8] = b"00112233445566778899aabbccddeeff\t2\n";
+
+/// A night of which the third line, one of 1,100 bytes, begins so far before the end of a
+/// read of that size.
+pub fn at_read_end(size: usize, back: usize) -> Vec<u8> {
+    let set = |zeros: usize| {
+        let zeros = "0".repeat(zeros);
+        format!("set\ta\t{zeros}6\t0001020304050607\t4142")
+    };
+    let rest = LINE_MAX - set(0).len();
+    let lines = format!("{}\n{}\nget\ta\nremove\ta", set(rest), set(rest + 1));
+    // Before it stands a single line, too long.
+    let long = vec![b'x'; size - back - FIRST.len() - 1];
+    [FIRST, &long, b"\n", lines.as_bytes()].concat()
+}
+
+/// A night of which a whole get's answer begins so far before the end of a write of that
+/// size.
+pub fn at_write_end(size: usize, back: usize) -> Vec<u8> {
+    const SET: usize = 3;
+    const GET: usize = 2 * DATA_MAX + 3;
+    let before = size - back - SET;
+    // The rest is of answers of three and of four bytes.
+    let gets = (before - 8) / GET;
+    let rest = before - gets * GET;
+    let fours = rest % 3;
+    let threes = (rest - 4 * fours) / 3;
+    let data = "5a".repeat(DATA_MAX);
+    let mut night = FIRST.to_vec();
+    night.extend(format!("set\ta\t0\t0001020304050607\t{data}\n").bytes());
+    night.extend(b"get\ta\n".repeat(gets));
+    night.extend(b"get\tb\n".repeat(threes));
+    night.extend(b"\n".repeat(fours));
+    night.extend(b"get\ta\n".repeat(2));
+    night
 }
 
 struct Teller {
@@ -682,19 +720,36 @@ fn line_of(printed: &[u8], line: usize) -> &[u8] {
     lines.nth(line).unwrap_or(&[])
 }
 
-/// Bytes to read, the middle of very many left out.
+/// Bytes to read, runs of one byte counted, and the middle of very many left out.
 fn shown(bytes: &[u8]) -> String {
+    const RUN: usize = 24;
     const ENDS: usize = 2_000;
-    if bytes.len() <= 2 * ENDS {
-        return format!("\"{}\"", bytes.escape_ascii());
+    let mut parts: Vec<String> = vec![String::new()];
+    let mut at = 0;
+    while at < bytes.len() {
+        let run = bytes[at..].iter().take_while(|byte| **byte == bytes[at]);
+        let run = run.count();
+        let one = bytes[at..=at].escape_ascii();
+        if run >= RUN {
+            parts.push(format!("\"{one}\" x {run}"));
+            parts.push(String::new());
+        } else if let Some(part) = parts.last_mut() {
+            *part += &one.to_string().repeat(run);
+        }
+        at += run;
     }
-    let (front, back) = (&bytes[..ENDS], &bytes[bytes.len() - ENDS..]);
-    let between = bytes.len() - 2 * ENDS;
-    format!(
-        "\"{}\" ({between} bytes) \"{}\"",
-        front.escape_ascii(),
-        back.escape_ascii()
-    )
+    let quoted = |(at, part): (usize, &String)| match at % 2 {
+        0 => format!("\"{part}\""),
+        _ => part.clone(),
+    };
+    let parts: Vec<String> = parts.iter().enumerate().map(quoted).collect();
+    let text = parts.join(" ");
+    if text.len() <= 2 * ENDS {
+        return text;
+    }
+    // All of it is ASCII.
+    let (front, back) = (&text[..ENDS], &text[text.len() - ENDS..]);
+    format!("{front} ... {back} ({} bytes)", bytes.len())
 }
 
 /// Plays the night; the difference, if there is one.
@@ -749,6 +804,34 @@ mod tests {
             let longest = replay::lines(&night).into_iter().map(<[u8]>::len).max();
             assert!(longest >= Some(1_000_000));
         }
+    }
+
+    #[test]
+    fn reads_and_writes_end_where_they_should() {
+        for (size, back) in [(4_096, 0), (4_096, 1_104), (65_536, 7)] {
+            let night = at_read_end(size, back);
+            assert!(
+                night[size - back..].starts_with(b"set\ta\t00") && night[size - back - 1] == 10
+            );
+            assert_eq!(replay::replay(&night), b"15\t\n0\t\n15\t\n0\t4142\n0\t\n");
+        }
+        for size in [4_096, 65_536] {
+            for back in 0..970 {
+                let printed = replay::replay(&at_write_end(size, back));
+                let get = &printed[size - back..];
+                assert!(get.len() == 2 * 963 && get.starts_with(b"0\t5a5a"));
+                assert_eq!(printed[size - back - 1], b'\n');
+            }
+        }
+    }
+
+    #[test]
+    fn bytes_are_shown_in_short() {
+        assert_eq!(shown(b"a\t\xff"), r#""a\t\xff""#);
+        let zeros = [&b"a"[..], &[b'0'; 30], b"\n"].concat();
+        assert_eq!(shown(&zeros), r#""a" "0" x 30 "\n""#);
+        let long = shown(&b"ab".repeat(5_000));
+        assert!(long.len() < 4_100 && long.ends_with("ab\" (10000 bytes)"));
     }
 
     #[test]

@@ -91,6 +91,8 @@ fn run(options: &Options) -> Score {
     score.check("edges-byte-by-byte", edges(&each_byte));
     let by_program = |night: &[u8]| player::by_program(&program, night, false);
     score.check("edges-by-program", edges(&by_program));
+    score.check("ends-of-reads", ends(nights::at_read_end, 1_104));
+    score.check("ends-of-writes", ends(nights::at_write_end, 970));
     score.check("big-nights", big_nights(seed));
     score.check("endless-lines", endless_lines(seed));
     score.check("no-output", no_output(&program));
@@ -108,6 +110,23 @@ fn edges(plays: Plays) -> Checked {
     };
     let mismatches: Vec<String> = table.iter().filter_map(differs).collect();
     verdict(&mismatches, format!("{} nights", table.len()))
+}
+
+/// Nights in which a read or write of a usual size would end at each byte of something.
+fn ends(night: fn(usize, usize) -> Vec<u8>, most: usize) -> Checked {
+    let mut mismatches = Vec::new();
+    let mut count = 0;
+    for size in [4_096, 65_536] {
+        for back in 0..most {
+            count += 1;
+            let night = night(size, back);
+            let expected = replay::replay(&night);
+            if let Some(different) = nights::difference(&night, &expected, &player::in_memory) {
+                mismatches.push(format!("  {back} bytes before {size}: {different}\n"));
+            }
+        }
+    }
+    verdict(&mismatches, format!("{count} nights"))
 }
 
 /// More than a read can bring at once.

@@ -140,7 +140,7 @@ pub fn cuts(night: &[u8], rng: &mut Rng) -> Vec<usize> {
             let mut cuts = Vec::new();
             let mut at = 0;
             loop {
-                at += least - 1 + 1 + rng.below(most);
+                at += least + rng.below(most);
                 if at >= night.len() {
                     return cuts;
                 }
