@@ -154,15 +154,19 @@ pub fn night(seed: u64, index: u64) -> Vec<u8> {
 /// A night that fills a card of 64 places, of at least that many bytes.
 pub fn big_night(rng: Rng, size: usize) -> Vec<u8> {
     let mut teller = Teller::new(rng);
-    let more = (0..80).map(|at| (format!("name {at}").into_bytes(), at % 4 * 2));
-    teller.names.extend(more);
+    for at in 0..80 {
+        let flags = [0, 2, 6, 12, 14][at % 5];
+        teller
+            .names
+            .push((format!("name {at}").into_bytes(), flags));
+    }
     let mut night = teller.key();
     night.extend(b"\t64\n");
     while night.len() < size {
         night.extend(teller.line());
         night.push(b'\n');
         // Now and then a line that holds most of what a read brings.
-        if teller.rng.below(200) == 0 {
+        if teller.rng.below(1_000) == 0 {
             let length = teller.rng.pick(&VERY_LONG);
             night.extend(teller.stretched(length));
             night.push(b'\n');
@@ -796,6 +800,7 @@ mod tests {
         let night = big_night(Rng::new(1), 1 << 20);
         assert!(night.len() >= 1 << 20);
         let replies = replay::play(&night);
+        assert!(replay::print(&replies).len() > 1 << 16);
         let verdict = |verdict| replies.iter().any(|reply| reply.verdict == verdict);
         assert!(verdict(Verdict::Called(0, Some(Why::NoPlace))));
         assert!(verdict(Verdict::Unread(Unreadable::LineTooLong)));

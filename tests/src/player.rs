@@ -24,7 +24,7 @@ const MFD_CLOEXEC: c_uint = 1;
 const O_CLOEXEC: c_int = 0o2_000_000;
 const FIONREAD: c_ulong = 0x541b;
 
-/// What stands in the output before: the player writes behind it.
+/// What stands in input and output before: the player reads and writes behind it.
 const BEFORE: &[u8] = b"before\n";
 
 fn owned(descriptor: c_int) -> File {
@@ -38,11 +38,12 @@ pub fn memory() -> File {
     owned(unsafe { memfd_create(b"night\0".as_ptr().cast(), MFD_CLOEXEC) })
 }
 
-/// A file in memory that holds these bytes, read from the front.
+/// A file in memory that stands where these bytes begin.
 pub fn holding(bytes: &[u8]) -> File {
-    let mut file = memory();
+    let mut file = empty_output();
     file.write_all(bytes).expect("room in memory");
-    file.seek(SeekFrom::Start(0)).expect("a file can be sought");
+    let begin = SeekFrom::Start(BEFORE.len() as u64);
+    file.seek(begin).expect("a file can be sought");
     file
 }
 
