@@ -229,6 +229,33 @@ pub fn at_write_end(size: usize, back: usize) -> Vec<u8> {
     night
 }
 
+/// Where a night that comes in pieces is cut: in order, between 0 and its length.
+pub fn cuts(night: &[u8], rng: &mut Rng) -> Vec<usize> {
+    // A thousand pieces at most, as each waits for a reader.
+    const MOST: usize = 1_000;
+    let least = night.len() / MOST + 1;
+    let newlines = (0..night.len()).filter(|at| night[*at] == b'\n');
+    let few = newlines.clone().count() < MOST / 2;
+    match rng.below(6) {
+        0 if least == 1 => (1..night.len()).collect(),
+        1 if few => newlines.collect(),
+        2 if few => newlines.map(|at| at + 1).collect(),
+        3 if few => newlines.flat_map(|at| [at, at + 1]).collect(),
+        kind => {
+            let most = if kind == 4 { 8 } else { 200 };
+            let mut cuts = Vec::new();
+            let mut at = 0;
+            loop {
+                at += least + rng.below(most);
+                if at >= night.len() {
+                    return cuts;
+                }
+                cuts.push(at);
+            }
+        }
+    }
+}
+
 struct Teller {
     rng: Rng,
     /// With the flags that each is usually set with.
@@ -828,6 +855,23 @@ mod tests {
                 assert_eq!(printed[size - back - 1], b'\n');
             }
         }
+    }
+
+    #[test]
+    fn cuts_stand_in_order_and_anywhere() {
+        let mut seen = [false; 3];
+        for index in 0..300 {
+            let night = night(1, index);
+            let cuts = cuts(&night, &mut Rng::new(index));
+            assert!(cuts.windows(2).all(|pair| pair[0] <= pair[1]));
+            assert!(cuts.len() <= 1_000 && cuts.last().map_or(true, |last| *last <= night.len()));
+            for cut in cuts {
+                seen[0] |= night.get(cut) == Some(&b'\n');
+                seen[1] |= cut > 0 && night[cut - 1] == b'\n';
+                seen[2] |= night.get(cut) == Some(&b'\t');
+            }
+        }
+        assert_eq!(seen, [true; 3]);
     }
 
     #[test]

@@ -83,8 +83,8 @@ fn run(options: &Options) -> Score {
     println!("seed {seed} nights {}", options.nights);
     score.check("edges", edges(&player::in_memory));
     let each_byte = |night: &[u8]| {
-        // The long ones in pieces that end about where a line may.
-        let least = night.len() / 300 + 1;
+        // The longest in a few thousand pieces.
+        let least = night.len() / 4_000 + 1;
         let cuts: Vec<usize> = (1..night.len()).step_by(least).collect();
         player::in_pieces(night, &cuts)
     };
@@ -138,7 +138,7 @@ fn big_nights(seed: u64) -> Checked {
         bytes += night.len();
         let expected = replay::replay(&night);
         let mut rng = Rng::part(seed ^ 14 << 40, index);
-        let cuts = player::cuts(&night, &mut rng);
+        let cuts = nights::cuts(&night, &mut rng);
         let in_pieces = |night: &[u8]| player::in_pieces(night, &cuts);
         let ways: [(&str, Plays); 2] = [("in memory", &player::in_memory), ("piped", &in_pieces)];
         for (way, plays) in ways {
@@ -247,7 +247,7 @@ fn played(program: &Path, seed: u64, index: u64, night: &[u8]) -> Printed {
         player::by_program(program, night, index % 2 == 0)
     } else if index % IN_PIECES == 7 {
         let mut rng = Rng::part(seed ^ 16 << 40, index);
-        player::in_pieces(night, &player::cuts(night, &mut rng))
+        player::in_pieces(night, &nights::cuts(night, &mut rng))
     } else {
         player::in_memory(night)
     }

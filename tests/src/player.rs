@@ -10,7 +10,6 @@ use std::sync::atomic::{AtomicBool, Ordering};
 use std::thread;
 
 use reference::nights::Printed;
-use reference::rng::Rng;
 
 extern "C" {
     fn securestore_replay(input: c_int, output: c_int) -> c_int;
@@ -124,31 +123,6 @@ pub fn in_pieces(night: &[u8], pieces: &[usize]) -> Printed {
         result
     });
     whole_output(result, output)
-}
-
-/// Where a night is cut: in order, between 0 and its length.
-pub fn cuts(night: &[u8], rng: &mut Rng) -> Vec<usize> {
-    // A thousand pieces at most, as each waits for a reader.
-    let least = night.len() / 1_000 + 1;
-    let newlines = (0..night.len()).filter(|at| night[*at] == b'\n');
-    match rng.below(6) {
-        0 if least == 1 => (1..night.len()).collect(),
-        1 if least == 1 => newlines.filter(|at| *at > 0).collect(),
-        2 if least == 1 => newlines.map(|at| at + 1).collect(),
-        3 if least == 1 => newlines.flat_map(|at| [at, at + 1]).collect(),
-        kind => {
-            let most = if kind == 4 { 8 } else { 200 };
-            let mut cuts = Vec::new();
-            let mut at = 0;
-            loop {
-                at += least + rng.below(most);
-                if at >= night.len() {
-                    return cuts;
-                }
-                cuts.push(at);
-            }
-        }
-    }
 }
 
 /// The night as the program's standard input, from a file or through a pipe.
