@@ -37,9 +37,16 @@ pub fn memory() -> File {
     owned(unsafe { memfd_create(b"night\0".as_ptr().cast(), MFD_CLOEXEC) })
 }
 
-/// A file in memory that stands where these bytes begin.
+/// A file in memory that stands behind what was there before.
+fn standing() -> File {
+    let mut file = memory();
+    file.write_all(BEFORE).expect("room in memory");
+    file
+}
+
+/// The same, where these bytes begin.
 pub fn holding(bytes: &[u8]) -> File {
-    let mut file = empty_output();
+    let mut file = standing();
     file.write_all(bytes).expect("room in memory");
     let begin = SeekFrom::Start(BEFORE.len() as u64);
     file.seek(begin).expect("a file can be sought");
@@ -76,20 +83,14 @@ fn whole_output(result: i32, mut output: File) -> Printed {
     }
 }
 
-fn empty_output() -> File {
-    let mut output = memory();
-    output.write_all(BEFORE).expect("room in memory");
-    output
-}
-
 /// Played from one file in memory to another.
 pub fn in_memory(night: &[u8]) -> Printed {
-    let (input, output) = (holding(night), empty_output());
+    let (input, output) = (holding(night), standing());
     let result = result(input.as_raw_fd(), output.as_raw_fd());
     whole_output(result, output)
 }
 
-/// Bytes that were written to the pipe and not yet read.
+/// Whether bytes wait in the pipe to be read.
 fn waiting(pipe: &File) -> bool {
     let mut bytes: c_int = 0;
     // SAFETY: this request writes one int.
@@ -101,7 +102,7 @@ fn waiting(pipe: &File) -> bool {
 /// read goes past the end of a piece.
 pub fn in_pieces(night: &[u8], pieces: &[usize]) -> Printed {
     let (input, mut feed) = pipe();
-    let output = empty_output();
+    let output = standing();
     let over = &AtomicBool::new(false);
     let result = thread::scope(|scope| {
         scope.spawn(move || {
