@@ -1,6 +1,6 @@
 # What ./run, ./test and ./build share. Each sources it at the top of the checkout, with its own name in `me`.
 # shellcheck shell=sh
-# shellcheck disable=SC2154 # me
+# shellcheck disable=SC2154 # me, here
 
 place=   # a temporary folder, once `enter` has made it
 running= # not empty while a command of `lead` or `prove` runs; then $! is its process group
@@ -12,6 +12,11 @@ say() {
 fail() {
     say "$1"
     exit 1
+}
+
+# A path as the caller named it: from where the caller stands, which is in `here`.
+from_here() {
+    case $1 in '' | /*) echo "$1" ;; *) echo "$here/$1" ;; esac
 }
 
 # The comment at the top of a script is its help.
