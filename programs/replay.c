@@ -1,7 +1,8 @@
 /*
  * replay: plays a script of calls from standard input, and prints each answer to standard output.
  *
- * The player is proved (crates/replay, crates/script_replay). Here are its two descriptors and the exit status, which a program in Rattle hasn't got.
+ * What a line means and which bytes answer it is proved (crates/script_replay), and that the loop around it is safe and ends (crates/replay). Here are its
+ * two descriptors and the exit status, which a program in Rattle hasn't got. Whoever closes the other end of a pipe ends it by SIGPIPE, as every filter.
  */
 #include <errno.h>
 #include <stdint.h>

@@ -1,7 +1,7 @@
 -- What a turn of the program does, as far as a contract can say it: all but which bytes the C library reads and writes.
---   Bounded, Gathers   what was read and not used, what is to be written, and what is held of a line lies within its buffer
---   unused, Taken      a line takes of what was read and not used as `gather` does
---   Appended           an answer stands behind those that are to be written, or they were written and it is the first
+--   Bounded, BoundedLine   what was read and not used, what is to be written, and what is held of a line lies within its buffer
+--   unused, Taken          a line takes of what was read and not used as `gather` does
+--   Appended               an answer stands behind those that are to be written, or they were written and it is the first
 use mathlib.Core.Path.{_≡_}
 use mathlib.Core.Logic.{_⊎_}
 use mathlib.Core.List.{List}
@@ -9,15 +9,15 @@ use Prim.Native.Nat.{ℕ, _+_, _-_, _≤_}
 use lib.ListN.{length, take, drop}
 use Rattle.buffers.specs.Bytes.{putAt}
 use Rattle.script_replay.specs.Script.{atFront}
-use Rattle.script_replay.specs.Stream.{endsLine, taken, held}
+use Rattle.script_replay.specs.Stream.{endsLine, taken, held, heldSize}
 use Rattle.replay.specs.declared.stream.Stream.{Stream}
 use Rattle.replay.specs.declared.line.Line.{Line}
 
 abbrev pub Bounded : Stream → Type 0
 Bounded s = (s .from ≤ s .to) × (s .to ≤ 65536) × (s .used ≤ 65536)
 
-abbrev pub Gathers : Line → Type 0
-Gathers l = Bounded (l .stream) × (l .len ≤ 1101)
+abbrev pub BoundedLine : Line → Type 0
+BoundedLine l = Bounded (l .stream) × (l .len ≤ heldSize)
 
 abbrev pub unused : Stream → List ℕ → List ℕ
 unused s chunk = take (s .to - s .from) (drop (s .from) chunk)
@@ -26,9 +26,9 @@ pub record Taken (l r : Line) (chunk line line′ : List ℕ) : Type 0 where
   pub from : r .stream .from ≡ l .stream .from + taken (unused (l .stream) chunk)
   pub to : r .stream .to ≡ l .stream .to
   pub used : r .stream .used ≡ l .stream .used
-  pub len : r .len ≡ length (held 1101 (take (l .len) line) (unused (l .stream) chunk))
+  pub len : r .len ≡ length (held heldSize (take (l .len) line) (unused (l .stream) chunk))
   pub whole : r .whole ≡ endsLine (unused (l .stream) chunk)
-  pub bytes : line′ ≡ atFront (held 1101 (take (l .len) line) (unused (l .stream) chunk)) line
+  pub bytes : line′ ≡ atFront (held heldSize (take (l .len) line) (unused (l .stream) chunk)) line
 
 pub record Appended (s r : Stream) (answers answers′ answer : List ℕ) : Type 0 where
   pub at : ℕ

@@ -6,7 +6,7 @@ mod line;
 mod player;
 mod stream;
 
-use script_replay::gather::HELD_SIZE;
+use script_replay::gather;
 use stream::BUFFER_SIZE;
 
 // 0 where the script was read to its end, or its first line is bad; 1 where the answers can't be written; 2 where the script can't be read.
@@ -14,7 +14,7 @@ use stream::BUFFER_SIZE;
 pub extern "C" fn securestore_replay(input: i32, output: i32) -> i32 {
     let mut chunk = [0u8; BUFFER_SIZE];
     let mut answers = [0u8; BUFFER_SIZE];
-    let mut line = [0u8; HELD_SIZE];
+    let mut line = gather::held_buffer();
     player::play(
         stream::begin(input, output),
         &mut chunk,

@@ -6,7 +6,7 @@ use script_replay::gather;
 use script_replay::gather::HELD_SIZE;
 ghost use mathlib.Core.Path.{_≡_};
 ghost use lib.ListN.{length};
-ghost use Rattle.replay.specs.Turns.{Bounded, Gathers, Taken};
+ghost use Rattle.replay.specs.Turns.{Bounded, BoundedLine, Taken};
 
 // The first `len` bytes of a line are held, and whether its newline has come.
 pub struct Line {
@@ -17,8 +17,8 @@ pub struct Line {
 
 // More of it from what was read.
 fn take_part(l: Line, chunk: &[u8], line: &mut [u8; HELD_SIZE]) -> Line
-    requires { ⌜ Gathers l × (length (now chunk) ≡ 65536) ⌝ }
-    ensures { λ r. ⌜ Gathers r ⌝ }
+    requires { ⌜ BoundedLine l × (length (now chunk) ≡ 65536) ⌝ }
+    ensures { λ r. ⌜ BoundedLine r ⌝ }
     ensures { λ r. ⌜ Taken l r (now (chunk .entry)) (now (line .entry)) (now (line .exit)) ⌝ }
 {
     let s = l.stream;
@@ -47,8 +47,8 @@ fn gather_some(
     answers: &[u8; BUFFER_SIZE],
     line: &mut [u8; HELD_SIZE],
 ) -> Line
-    requires { ⌜ Gathers l ⌝ }
-    ensures { λ r. ⌜ Gathers r ⌝ }
+    requires { ⌜ BoundedLine l ⌝ }
+    ensures { λ r. ⌜ BoundedLine r ⌝ }
 {
     let s = l.stream;
     if s.to <= s.from {
@@ -70,7 +70,7 @@ pub(crate) fn next_line(
     line: &mut [u8; HELD_SIZE],
 ) -> Line
     requires { ⌜ Bounded s ⌝ }
-    ensures { λ r. ⌜ Gathers r ⌝ }
+    ensures { λ r. ⌜ BoundedLine r ⌝ }
 {
     let mut l = Line {
         stream: s,

@@ -6,19 +6,15 @@ use crate::stream::BUFFER_SIZE;
 use crate::stream::Stream;
 use script_replay::answer;
 use script_replay::answer::ANSWER_SIZE;
+use script_replay::areas;
 use script_replay::gather::HELD_SIZE;
 use script_replay::header;
-use script_replay::header::MAX_SLOTS;
 use script_replay::step;
 ghost use Prim.Native.Nat.{_≤_};
 ghost use mathlib.Core.Path.{_≡_};
 ghost use lib.ListN.{take};
 ghost use Rattle.script_replay.specs.Replay.{«step» as Replay·step};
-ghost use Rattle.replay.specs.Turns.{Bounded, Gathers, Appended};
-
-const KV_SLOT: usize = 584;
-
-const RBP_SLOT: usize = 82;
+ghost use Rattle.replay.specs.Turns.{Bounded, BoundedLine, Appended};
 
 // The line that is held is carried out, and its answer put behind the others.
 fn play_line(
@@ -29,7 +25,7 @@ fn play_line(
     line: &[u8; HELD_SIZE],
     answers: &mut [u8; BUFFER_SIZE],
 ) -> Stream
-    requires { ⌜ Gathers l ⌝ }
+    requires { ⌜ BoundedLine l ⌝ }
     ensures { λ r. ⌜ Bounded r ⌝ }
     ensures { λ r. ⌜ Appended (l .stream) r (now (answers .entry)) (now (answers .exit)) (Replay·step (now (kv .entry)) (now (rbp .entry)) (now («device_key» .entry)) (take (l .len) (now (line .entry))) .answer) ⌝ }
     ensures { λ _. ⌜ record { kv = now (kv .exit); rbp = now (rbp .exit) } ≡ Replay·step (now (kv .entry)) (now (rbp .entry)) (now («device_key» .entry)) (take (l .len) (now (line .entry))) .after ⌝ }
@@ -76,10 +72,11 @@ fn play_from_empty(
     requires { ⌜ Bounded s × (slots ≤ 64) ⌝ }
     ensures { λ r. ⌜ Bounded r ⌝ }
 {
-    let mut kv = [0u8; MAX_SLOTS * KV_SLOT];
-    let mut rbp = [0u8; MAX_SLOTS * RBP_SLOT];
-    let kv_end = slots * KV_SLOT;
-    let rbp_end = slots * RBP_SLOT;
+    let mut kv = [0u8; areas::MAX_KV];
+    let mut rbp = [0u8; areas::MAX_RBP];
+    let sizes = areas::area_sizes(slots);
+    let kv_end = sizes.kv;
+    let rbp_end = sizes.rbp;
     play_lines(
         s,
         &mut kv[0..kv_end],

@@ -8,6 +8,7 @@ use native.Mathlib.Omega.{arith}
 use borrow.Author.Tests.{ne-eqb}
 use lib.Dec.{eqb, ltb}
 use lib.ListN.{length, getD, length-take}
+use lib.Seq.{drop-at}
 use Rattle.buffers.specs.Bytes.{zeros}
 use Rattle.text.specs.Parts.{tab, newline, lines}
 use Rattle.text.specs.Hex.{hexDigit, hexText}
@@ -66,7 +67,11 @@ one-line status returned more =
 
 pub answer-laws : AnswerLaws
 unfolding answerLine
-answer-laws = record { bytes = λ status returned. refl; one-line = one-line }
+answer-laws = record {
+  bytes = λ status returned. refl;
+  front = λ bytes out behind h. ap (λ (l : List ℕ). bytes ++ l) (drop-at out behind (length bytes) h);
+  one-line = one-line;
+}
 
 -- ---- demand 1
 

@@ -65,10 +65,10 @@ within t out last r p q = omega (arith, p, ap (λ (l : List ℕ). length l) q, l
 pub answer-part : (t out last : List ℕ) (n : ℕ) → n ≡ length t → last ≡ atFront t out → take (n - 0) (drop 0 last) ≡ t
 answer-part t out last n p q = rw q (front-part t (drop (length t) out) n (sym p))
 
-pub told : (o : Played) (s : Areas) (out last : List ℕ) (r : ℕ)
+pub with-bound : (o : Played) (s : Areas) (out last : List ℕ) (r : ℕ)
     → (r ≡ length (o .answer)) × ((last ≡ atFront (o .answer) out) × (s ≡ o .after))
     → (r ≡ length (o .answer)) × ((last ≡ atFront (o .answer) out) × ((s ≡ o .after) × (r ≤ length last)))
-told o s out last r (p, (q, e)) = (p, (q, (e, within (o .answer) out last r p q)))
+with-bound o s out last r (p, (q, e)) = (p, (q, (e, within (o .answer) out last r p q)))
 
 -- a call that returns nothing but its number
 module _ (o : Outcome Areas Answer) (status : ℕ) (kv rbp : List ℕ)

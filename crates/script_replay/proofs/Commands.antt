@@ -1,18 +1,18 @@
 -- The tests of a line, as the code makes them. Assumes nothing.
 use mathlib.Core.Path.{_≡_, refl, ap, _∙_}
-use mathlib.Core.Bool.{Bool, true, false, _&&_}
+use mathlib.Core.Bool.{Bool, true, false}
 use mathlib.Core.List.{List}
 use Prim.Native.Nat.{ℕ, _≤_}
 use native.Mathlib.Omega.{arith}
 use borrow.Author.Tests.{le-leb}
-use lib.ListN.{length, getD, take, drop, length-take, length-drop}
-use Rattle.text.specs.Parts.{parts, tab, partStart}
+use lib.ListN.{length, drop, length-take, length-drop}
+use Rattle.text.specs.Parts.{tab, partStart}
 use Rattle.text.specs.Hex.{isHex, hexBytes}
 use Rattle.text.specs.Decimal.{decimalValue, read}
 use Rattle.text.specs.declared.decimal.Decimal.{Decimal}
 use Rattle.text.proofs.Theorems as text
 use Rattle.text.proofs.HexSteps.{bytes-length}
-use Rattle.script_replay.specs.Script.{fits, field, setWord, getWord, removeWord, isCommand, isNumber}
+use Rattle.script_replay.specs.Script.{field, setWord, getWord, removeWord, isCommand, isNumber}
 use Rattle.spec.specs.Calls.{storeSet}
 use Rattle.script_replay.specs.Replay.{answered, unreadable, setLine, getLine, removeLine, callLine, step}
 
@@ -38,7 +38,7 @@ module _ (s : List ℕ) (most : ℕ) (r : Decimal) (e : r ≡ read s most) where
 -- ---- fields
 
 -- no field is longer than its line
-pub field-short : (line : List ℕ) (k : ℕ) → length (field line k) ≤ length line
+field-short : (line : List ℕ) (k : ℕ) → length (field line k) ≤ length line
 field-short line k =
     let p = field line k in
     let from = drop (partStart tab line k) line in

@@ -15,7 +15,11 @@ use Rattle.buffers.proofs.Split.{split}
 use Rattle.text.specs.Parts.{newline}
 use Rattle.script_replay.specs.Script.{atFront}
 use Rattle.script_replay.specs.declared.gather.Gathered.{Gathered}
-use Rattle.script_replay.specs.Stream.{untilNewline, endsLine, taken, held, gathered}
+use Rattle.script_replay.specs.Stream.{untilNewline, endsLine, taken, held}
+
+-- what is answered
+abbrev gathered : ℕ → List ℕ → List ℕ → Gathered
+gathered room line part = record { len = length (held room line part); taken = taken part; whole = endsLine part }
 
 -- ---- the newline
 
@@ -100,7 +104,7 @@ module _ (line part : List ℕ) (len at n : ℕ) (e : at ≡ min len (length lin
 until-within : (s : List ℕ) → length (untilNewline s) ≤ length s
 until-within s = omega (arith, ap (λ (l : List ℕ). length l) (take-until s), length-take (length (untilNewline s)) s)
 
-taken-within : (s : List ℕ) → taken s ≤ length s
+pub taken-within : (s : List ℕ) → taken s ≤ length s
 taken-within s = split (leb (length s) (length (untilNewline s)))
     (λ e. let h = leb-true (length s) (length (untilNewline s)) e in rw (goes-on s h) (until-within s))
     (λ e. let h = leb-false (length s) (length (untilNewline s)) e in rw (ends s (omega (arith, h))) (omega (arith, h)))

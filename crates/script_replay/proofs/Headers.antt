@@ -1,5 +1,5 @@
 -- The tests of the first line, as the code makes them. Assumes nothing.
-use mathlib.Core.Path.{_≡_, refl, sym, ap, _∙_}
+use mathlib.Core.Path.{_≡_, refl, sym, _∙_}
 use mathlib.Core.Logic.{_≢_}
 use mathlib.Core.Bool.{true, false, _&&_}
 use mathlib.Core.List.{List}
@@ -8,7 +8,7 @@ use native.Mathlib.Omega.{arith}
 use borrow.Author.Tests.{le-leb, lt-leb, eq-eqb, ne-eqb}
 use lib.Dec.{leb}
 use lib.ListN.{length}
-use Rattle.buffers.proofs.Split.{split, clash}
+use Rattle.buffers.proofs.Split.{split}
 use Rattle.text.specs.Parts.{parts, tab}
 use Rattle.text.specs.Hex.{isHex, hexBytes}
 use Rattle.text.specs.Decimal.{decimalValue, read}
@@ -28,7 +28,7 @@ module _ (s : List ℕ) (d : Decimal) (e : d ≡ read s 64) where
       (λ b. rw (b, lt-leb 1 (decimalValue s) (omega (arith, number-value s 64 d e b))))
       (λ b. rw b)
 
-  pub slots-number : 1 ≤ d .value → isNumber 64 s ≡ true
+  slots-number : 1 ≤ d .value → isNumber 64 s ≡ true
   slots-number h = split (isNumber 64 s) (λ b. b) (λ b. absurd (omega (arith, number-bad s 64 d e b)))
 
 -- ---- the key

@@ -56,16 +56,15 @@ module _ (kv rbp key line : List ℕ) where
         set-count kv rbp key name (decimalValue (h .number)) (hexBytes (h .iv-digits)) (hexBytes (h .digits)),
       )
 
-  of-get : (name output : List ℕ) (status count : ℕ) → length line ≤ 1100 → parts tab line ≡ getWord ∷ name ∷ []
-      → storeGet kv rbp key name 0 (zeros 480) .answer ≡ record { status = status; numbers = count ∷ []; output = output }
-      → step kv rbp key line ≡ printed status (take count output) (areas kv rbp)
+  of-get : (name : List ℕ) → length line ≤ 1100 → parts tab line ≡ getWord ∷ name ∷ []
+      → let a = storeGet kv rbp key name 0 (zeros 480) .answer in
+      step kv rbp key line ≡ printed (a .status) (take (getD (a .numbers) 0 0) (a .output)) (areas kv rbp)
   unfolding step callLine getLine
-  of-get name output status count l e h = rw (
+  of-get name l e = rw (
     le-leb (length line) 1100 l,
     other-command line setWord 5 e refl,
     first-command line getWord 2 e refl,
     e,
-    h,
     get-after kv rbp key name 0 (zeros 480),
   )
 

@@ -34,12 +34,12 @@ next key s (first ∷ before) line rest =
     let o = step (s .kv) (s .rbp) key first in
     rw (next key (o .after) before line rest) (sym (append-assoc (o .answer) (play key (o .after) before) _))
 
-number : (key : List ℕ) (s : Areas) (before : List (List ℕ)) → length (lines (play key s before)) ≡ length before
+number : (key : List ℕ) (s : Areas) (ls : List (List ℕ)) → length (lines (play key s ls)) ≡ length ls
 number key s [] = refl
-number key s (line ∷ before) =
+number key s (line ∷ ls) =
     let o = step (s .kv) (s .rbp) key line in
     let a = every-line (s .kv) (s .rbp) key line in
-    rw (a .answer, answer-laws .one-line (a .status) (a .returned) (play key (o .after) before)) (ap suc (number key (o .after) before))
+    rw (a .answer, answer-laws .one-line (a .status) (a .returned) (play key (o .after) ls)) (ap suc (number key (o .after) ls))
 
 pub replay-exact : ReplayExact
 unfolding replay
@@ -78,6 +78,5 @@ set-then-get kv rbp key line name flags iv value l h e =
     let done : o .answer .status ≡ 0 = status-told (o .answer .status) (demand1 .of-set kv rbp key name flags iv value .listed) (rw p at e) in
     let size = demand2 .set-exact kv rbp key name flags iv value .condition .0 done .value-sized in
     let got = ap (λ (g : Outcome Areas Answer). g .answer) (demand2 .round-trip kv rbp key name flags iv value (zeros 480) done size) in
-    rw p (line-exact (o .after .kv) (o .after .rbp) key (getWord ++ tab ∷ name) .of-get name (value ++ drop (length value) (zeros 480)) 0 (length value)
-    (get-fits line (h .fields) l) (get-fields line (h .fields)) got
-    ∙ rw (take-append-seam value (drop (length value) (zeros 480))))
+    rw p (line-exact (o .after .kv) (o .after .rbp) key (getWord ++ tab ∷ name) .of-get name (get-fits line (h .fields) l) (get-fields line (h .fields))
+    ∙ rw (got, take-append-seam value (drop (length value) (zeros 480))))

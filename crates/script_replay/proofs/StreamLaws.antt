@@ -15,6 +15,7 @@ use Rattle.script_replay.specs.Script.{fits, badHeader, header}
 use Rattle.script_replay.specs.Replay.{unreadable, step, emptyAreas, play, replayLines, replay}
 use Rattle.script_replay.specs.Stream.{untilNewline, endsLine, taken, held, heldLines}
 use Rattle.script_replay.specs.Laws.{StreamLaws}
+use Rattle.script_replay.proofs.Gathering.{taken-within}
 use Rattle.script_replay.proofs.HeaderLaws.{too-long as header-long}
 use Rattle.script_replay.proofs.LineLaws.{too-long as step-long}
 use Rattle.script_replay.proofs.AnswerLaws.{ends-append, first-line}
@@ -44,7 +45,7 @@ module _ (room : ℕ) where
 
   next : (line part more : List ℕ) → length line ≤ room
       → heldLines room line (part ++ more)
-      ≡ cond (endsLine part) (held room line part ∷ heldLines room [] (drop (taken part) part ++ more)) (heldLines room (held room line part) more)
+      ≡ cond (endsLine part) (held room line part ∷ heldLines room [] (drop (taken part) part ++ more)) (heldLines room (held room line part) (drop (taken part) part ++ more))
   next line [] more h = rw (held-whole line h)
   next line (b ∷ s) more h = split (eqb b newline)
       (λ e. rw (e, held-whole line h))
@@ -96,6 +97,7 @@ pub stream-laws : StreamLaws
 unfolding replay
 stream-laws = record {
   next = next;
+  within = taken-within;
   all = λ room input h. rw (take-nil room) at (behind room [] input h refl);
   enough = λ input. enough (lines input);
 }

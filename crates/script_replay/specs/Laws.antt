@@ -1,7 +1,7 @@
 -- What is stated of 02, No. 6. `proofs/Theorems` has each statement with its proof.
 --   Header, HeaderExact            the first line
 --   SaysSet, Readable, LineExact   which line is which call, and that every other can't be read
---   AnswerLaws                     the answer to a line is one line, and tells the number and the bytes
+--   AnswerLaws                     the answer to a line is one line, at the front of its buffer
 --   Answers, EveryLine             demand 1 for a line
 --   afterLines, ReplayExact        a whole script, line by line
 --   SetThenGet                     what a set printed 0 for, a get of that name prints next, whole
@@ -12,7 +12,7 @@ use mathlib.Core.Logic.{_≢_, _⊎_}
 use mathlib.Core.Bool.{true, false, cond}
 use mathlib.Core.List.{List, [], _∷_, _++_, map}
 use Prim.Native.Nat.{ℕ, _+_, _*_, _≤_}
-use lib.ListN.{length, take, drop}
+use lib.ListN.{length, getD, take, drop}
 use Rattle.buffers.specs.Bytes.{zeros}
 use Rattle.text.specs.Parts.{parts, lines}
 use Rattle.text.specs.Hex.{isHex, hexBytes, hexText}
@@ -20,9 +20,9 @@ use Rattle.text.specs.Decimal.{isDecimal, decimalValue, decimalText}
 use Rattle.spec.specs.Status.{isListed, Answer}
 use Rattle.spec.specs.Interleaving.{Outcome}
 use Rattle.spec.specs.Calls.{Areas, areas, storeSet, storeGet, storeRemove}
-use Rattle.script_replay.specs.Script.{setWord, getWord, removeWord, header, answerLine}
+use Rattle.script_replay.specs.Script.{setWord, getWord, removeWord, header, answerLine, atFront}
 use Rattle.script_replay.specs.Replay.{Played, step, play, replayLines, replay}
-use Rattle.script_replay.specs.Stream.{endsLine, taken, held, heldLines}
+use Rattle.script_replay.specs.Stream.{endsLine, taken, held, heldSize, heldLines}
 
 -- ---- the first line: "device key in 32 hex digits, tab, number of places, 1 to 64"
 
@@ -80,9 +80,9 @@ pub record LineExact (kv rbp key line : List ℕ) : Type 0 where
   pub of-set : (name : List ℕ) (flags : ℕ) (iv value : List ℕ) → length line ≤ 1100 → SaysSet line name flags iv value
       → let o = storeSet kv rbp key name flags iv value in step kv rbp key line ≡ printed (o .answer .status) [] (o .after)
   -- "a get has 480 bytes of output"; the count says how many of them are returned
-  pub of-get : (name output : List ℕ) (status count : ℕ) → length line ≤ 1100 → parts 0x09 line ≡ getWord ∷ name ∷ []
-      → storeGet kv rbp key name 0 (zeros 480) .answer ≡ record { status = status; numbers = count ∷ []; output = output }
-      → step kv rbp key line ≡ printed status (take count output) (areas kv rbp)
+  pub of-get : (name : List ℕ) → length line ≤ 1100 → parts 0x09 line ≡ getWord ∷ name ∷ []
+      → let a = storeGet kv rbp key name 0 (zeros 480) .answer in
+      step kv rbp key line ≡ printed (a .status) (take (getD (a .numbers) 0 0) (a .output)) (areas kv rbp)
   pub of-remove : (name : List ℕ) → length line ≤ 1100 → parts 0x09 line ≡ removeWord ∷ name ∷ []
       → let o = storeRemove kv rbp name in step kv rbp key line ≡ printed (o .answer .status) [] (o .after)
   -- "A line over 1,100 bytes before its newline or otherwise unreadable prints 15 and a tab"
@@ -93,6 +93,8 @@ pub record LineExact (kv rbp key line : List ℕ) : Type 0 where
 pub record AnswerLaws : Type 0 where
   -- "the number, a tab, and the returned bytes in hex", and a newline
   pub bytes : (status : ℕ) (returned : List ℕ) → answerLine status returned ≡ decimalText status ++ (0x09 ∷ (hexText returned ++ 0x0a ∷ []))
+  -- at the front of a buffer, with any bytes behind it
+  pub front : (bytes out behind : List ℕ) → length out ≡ length bytes → atFront bytes (out ++ behind) ≡ bytes ++ behind
   -- one line, whatever follows it
   pub one-line : (status : ℕ) (returned more : List ℕ)
       → lines (answerLine status returned ++ more) ≡ (decimalText status ++ (0x09 ∷ hexText returned)) ∷ lines more
@@ -130,7 +132,7 @@ pub record ReplayExact : Type 0 where
       let o = step (now .kv) (now .rbp) key line in
       play key s (before ++ line ∷ rest) ≡ play key s before ++ (o .answer ++ play key (o .after) rest)
   -- as many answers as lines
-  pub number : (key : List ℕ) (s : Areas) (before : List (List ℕ)) → length (lines (play key s before)) ≡ length before
+  pub number : (key : List ℕ) (s : Areas) (ls : List (List ℕ)) → length (lines (play key s ls)) ≡ length ls
   -- "the last line may lack its newline"
   pub lacking : (input : List ℕ) (x : ℕ) → x ≢ 0x0a → replay (input ++ x ∷ []) ≡ replay (input ++ x ∷ 0x0a ∷ [])
 
@@ -168,8 +170,9 @@ pub record StreamLaws : Type 0 where
   -- one read more, behind what is held of a line
   pub next : (room : ℕ) (line part more : List ℕ) → length line ≤ room
       → heldLines room line (part ++ more)
-      ≡ cond (endsLine part) (held room line part ∷ heldLines room [] (drop (taken part) part ++ more)) (heldLines room (held room line part) more)
+      ≡ cond (endsLine part) (held room line part ∷ heldLines room [] (drop (taken part) part ++ more)) (heldLines room (held room line part) (drop (taken part) part ++ more))
+  pub within : (part : List ℕ) → taken part ≤ length part
   -- from the start, the lines that are held are those of the whole input, cut
   pub all : (room : ℕ) (input : List ℕ) → 1 ≤ room → heldLines room [] input ≡ map (take room) (lines input)
-  -- 1,101 bytes of a line are enough
-  pub enough : (input : List ℕ) → replayLines (map (take 1101) (lines input)) ≡ replay input
+  -- what is held of a line is enough
+  pub enough : (input : List ℕ) → replayLines (map (take heldSize) (lines input)) ≡ replay input

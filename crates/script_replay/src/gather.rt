@@ -5,8 +5,9 @@ use text::parts::NEWLINE;
 ghost use mathlib.Core.Path.{_≡_};
 ghost use Prim.Native.Nat.{min};
 ghost use lib.ListN.{length, take};
+ghost use Rattle.buffers.specs.Bytes.{zeros};
 ghost use Rattle.script_replay.specs.Script.{atFront};
-ghost use Rattle.script_replay.specs.Stream.{held, gathered};
+ghost use Rattle.script_replay.specs.Stream.{endsLine, «taken» as Stream·taken, held, heldSize};
 
 // One byte more than a line may have, so that what is kept of a longer one is too long.
 pub const HELD_SIZE: usize = LINE_LIMIT + 1;
@@ -18,6 +19,12 @@ pub struct Gathered {
     pub whole: bool,
 }
 
+pub fn held_buffer() -> [u8; HELD_SIZE]
+    ensures { λ r. ⌜ r ≡ zeros heldSize ⌝ }
+{
+    [0; HELD_SIZE]
+}
+
 fn least(a: usize, b: usize) -> usize
     ensures { λ r. ⌜ r ≡ min a b ⌝ }
 {
@@ -26,7 +33,7 @@ fn least(a: usize, b: usize) -> usize
 
 // Takes a read's bytes up to the first newline, behind the first len that are held; the newline is taken, and not held.
 pub fn gather(part: &[u8], len: usize, line: &mut [u8]) -> Gathered
-    ensures { λ r. ⌜ r ≡ gathered (length (now (line .entry))) (take len (now (line .entry))) (now (part .entry)) ⌝ }
+    ensures { λ r. ⌜ r ≡ record { len = length (held (length (now (line .entry))) (take len (now (line .entry))) (now (part .entry))); taken = Stream·taken (now (part .entry)); whole = endsLine (now (part .entry)) } ⌝ }
     ensures { λ _. ⌜ now (line .exit) ≡ atFront (held (length (now (line .entry))) (take len (now (line .entry))) (now (part .entry))) (now (line .entry)) ⌝ }
 {
     let end = bytes::scan::find(part, 0, part.len(), NEWLINE);

@@ -7,8 +7,6 @@ ghost use mathlib.Core.Path.{_≡_};
 ghost use Prim.Native.Nat.{_≤_};
 ghost use Rattle.script_replay.specs.Script.{badHeader, header};
 
-pub const MAX_SLOTS: usize = 64;
-
 pub struct ScriptHeader {
     pub ok: bool,
     pub key: [u8; 16],

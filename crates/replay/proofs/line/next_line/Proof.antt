@@ -1,11 +1,11 @@
 -- `replay::line::next_line` keeps within its buffers, and its turns run out.
 use borrow.Author.Needs.{needs}
-use Rattle.replay.specs.Turns.{Gathers}
+use Rattle.replay.specs.Turns.{BoundedLine}
 use Rattle.replay.proofs.line.next_line.Statement.{statement}
 use Rattle.replay.proofs.line.next_line.Tie as tie
 
 abbrev Inv-loop : tie.InvT-loop
-Inv-loop chunk₀ answers line₀ l₀ turns₀ chunk line l turns = Gathers l
+Inv-loop chunk₀ answers line₀ l₀ turns₀ chunk line l turns = BoundedLine l
 
 abbrev μ-loop : tie.MeasureT-loop
 μ-loop chunk₀ answers line₀ l₀ turns₀ chunk line l turns = turns

@@ -3,12 +3,12 @@ use mathlib.Core.Path.{_≡_}
 use native.Mathlib.Omega.{arith}
 use lib.ListN.{length}
 use borrow.Author.Needs.{needs}
-use Rattle.replay.specs.Turns.{Gathers}
+use Rattle.replay.specs.Turns.{BoundedLine}
 use Rattle.replay.proofs.player.play_lines.Statement.{statement}
 use Rattle.replay.proofs.player.play_lines.Tie as tie
 
 abbrev Inv-loop : tie.InvT-loop
-Inv-loop kv₀ rbp₀ device-key chunk₀ answers₀ line₀ l₀ turns₀ kv rbp chunk answers line l turns = Gathers l × (length kv ≡ length kv₀) × (length rbp ≡ length rbp₀)
+Inv-loop kv₀ rbp₀ device-key chunk₀ answers₀ line₀ l₀ turns₀ kv rbp chunk answers line l turns = BoundedLine l × (length kv ≡ length kv₀) × (length rbp ≡ length rbp₀)
 
 abbrev μ-loop : tie.MeasureT-loop
 μ-loop kv₀ rbp₀ device-key chunk₀ answers₀ line₀ l₀ turns₀ kv rbp chunk answers line l turns = turns

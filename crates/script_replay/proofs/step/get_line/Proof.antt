@@ -1,9 +1,8 @@
 -- `script_replay::step::get_line`: the call into 480 bytes, and its answer.
-use mathlib.Core.Path.{_≡_}
 use mathlib.Core.List.{[], _∷_}
 use Prim.Native.Nat.{_-_}
 use native.Mathlib.Omega.{arith}
-use lib.ListN.{take, length-take}
+use lib.ListN.{length-take}
 use borrow.Author.Needs.{needs}
 use Rattle.spec.specs.Status.{Answer}
 use Rattle.script_replay.proofs.Answered.{written, count-fits, get-answer}

@@ -4,7 +4,7 @@ use borrow.Author.Needs.{needs}
 use borrow.Author.Tests.{lt-leb}
 use lib.ListN.{length}
 use Rattle.script_replay.specs.Replay.{setLine, getLine, removeLine, step}
-use Rattle.script_replay.proofs.Answered.{told, refused-line, get-line-after}
+use Rattle.script_replay.proofs.Answered.{with-bound, refused-line, get-line-after}
 use Rattle.script_replay.proofs.LineLaws.{too-long}
 use Rattle.script_replay.proofs.Commands.{a-set, a-get, a-remove, none-of-three}
 use Rattle.script_replay.proofs.step.step.Statement.{statement}
@@ -20,7 +20,7 @@ returns c =
     let kv = a .kv .now in
     let rbp = a .rbp .now in
     let line = a .line .now in
-    told (step kv rbp (a .device-key .now) line) _ (a .out .now) _ _ (refused-line _ kv rbp (a .out .now) _ _ (too-long kv rbp (a .device-key .now) line (lt-leb (length line) 1100 (test .if1 .taken)))
+    with-bound (step kv rbp (a .device-key .now) line) _ (a .out .now) _ _ (refused-line _ kv rbp (a .out .now) _ _ (too-long kv rbp (a .device-key .now) line (lt-leb (length line) 1100 (test .if1 .taken)))
     (c .put-unreadable .ensures .0) (c .put-unreadable .ensures .1 .0))
 
 slice-aggregate-is-command : tie.Need-slice-aggregate-is-command
@@ -47,7 +47,7 @@ returns-2 c =
     let a = short .before .before .before .before .before .args in
     let is = sym (set .is-command .ensures) ∙ test .if2 .taken in
     rw (a-set (a .kv .now) (a .rbp .now) (a .device-key .now) (a .line .now) (short .if1 .left) is)
-    (told (setLine (a .kv .now) (a .rbp .now) (a .device-key .now) (a .line .now)) _ (a .out .now) _ _ (done .set-line .ensures))
+    (with-bound (setLine (a .kv .now) (a .rbp .now) (a .device-key .now) (a .line .now)) _ (a .out .now) _ _ (done .set-line .ensures))
 
 slice-aggregate-is-command-2 : tie.Need-slice-aggregate-is-command-2
 slice-aggregate-is-command-2 c = search needs
@@ -79,7 +79,7 @@ returns-3 c =
     let no-set = sym (set .is-command .ensures) ∙ not-set .if2 .left in
     let is = sym (get .is-command2 .ensures) ∙ test .if3 .taken in
     let got = c .get-line .ensures in
-    rw (a-get kv rbp key line (short .if1 .left) no-set is) (told (getLine kv rbp key line) _ (a .out .now) _ _ (got .0, (got .1, get-line-after kv rbp key line)))
+    rw (a-get kv rbp key line (short .if1 .left) no-set is) (with-bound (getLine kv rbp key line) _ (a .out .now) _ _ (got .0, (got .1, get-line-after kv rbp key line)))
 
 slice-aggregate-is-command-3 : tie.Need-slice-aggregate-is-command-3
 slice-aggregate-is-command-3 c = search needs
@@ -111,7 +111,7 @@ returns-4 c =
     let no-get = sym (get .is-command2 .ensures) ∙ not-get .if3 .left in
     let is = sym (remove .is-command3 .ensures) ∙ test .if4 .taken in
     rw (a-remove (a .kv .now) (a .rbp .now) (a .device-key .now) (a .line .now) (short .if1 .left) no-set no-get is)
-    (told (removeLine (a .kv .now) (a .rbp .now) (a .line .now)) _ (a .out .now) _ _ (done .remove-line .ensures))
+    (with-bound (removeLine (a .kv .now) (a .rbp .now) (a .line .now)) _ (a .out .now) _ _ (done .remove-line .ensures))
 
 put-unreadable-requires-2 : tie.Need-put-unreadable-requires-2
 put-unreadable-requires-2 c κs = search needs
@@ -131,7 +131,7 @@ returns-5 c =
     let no-set = sym (set .is-command .ensures) ∙ not-set .if2 .left in
     let no-get = sym (get .is-command2 .ensures) ∙ not-get .if3 .left in
     let no-remove = sym (remove .is-command3 .ensures) ∙ not-remove .if4 .left in
-    told (step kv rbp (a .device-key .now) (a .line .now)) _ (a .out .now) _ _
+    with-bound (step kv rbp (a .device-key .now) (a .line .now)) _ (a .out .now) _ _
     (refused-line _ kv rbp (a .out .now) _ _ (none-of-three kv rbp (a .device-key .now) (a .line .now) (short .if1 .left) no-set no-get no-remove)
     (c .put-unreadable2 .ensures .0) (c .put-unreadable2 .ensures .1 .0))
 
