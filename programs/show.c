@@ -287,7 +287,7 @@ static int put_lines(FILE *script, FILE *answers)
     }
     if (read_line(answers, &answer))
         return fail("there are more answers than the script has lines");
-    printf("%lu lines played: %lu done, %lu refused, %lu unreadable\n", at - 1, done, at - 1 - done - unreadable, unreadable);
+    printf("%lu %s played: %lu done, %lu refused, %lu unreadable\n", at - 1, at == 2 ? "line" : "lines", done, at - 1 - done - unreadable, unreadable);
     return 0;
 }
 

@@ -21,7 +21,7 @@ inputs() {
     shift
     rt version
     "$cc" --version
-    cat scripts/player.sh "$@"
+    cat "$@"
     find "crates/$top" -type f -exec sha256sum {} + | sort
     for crate in $(below "$top"); do echo "$crate $(cat "target/stamp/$crate")"; done
 }
@@ -33,16 +33,16 @@ said_by_rt() {
 
 # Proves the player and builds it, unless it is there and of the same inputs. Where that fails, none is left, and `why` says what failed.
 make_player() {
-    say "proving what the player stands on (a minute on the library, seconds where nothing has changed)"
+    say "proving what the player stands on: about three minutes on two cores from nothing, seconds where nothing has changed"
     # shellcheck disable=SC2046 # a list of crates
     prove $(below replay) || not_proved_player || return
-    inputs replay programs/replay.c | sha256sum >"$place/inputs"
+    inputs replay scripts/player.sh programs/replay.c | sha256sum >"$place/inputs"
     sha256sum target/bin/replay >"$place/outputs" 2>&1
     if cat "$place/inputs" "$place/outputs" | cmp -s - target/bin/replay.stamp; then
         say "the player is unchanged"
         return
     fi
-    say "proving and compiling the player (about 20 s)"
+    say "proving and compiling the player (about 30 s)"
     rm -f target/bin/replay.stamp
     lead rt staticlib replay >"$place/rt" 2>&1 || not_proved_player || return
     mkdir -p target/bin
