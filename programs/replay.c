@@ -1,7 +1,7 @@
 /*
  * replay: plays a script of calls from standard input, and prints each answer to standard output.
  *
- * What a line means and which bytes answer it is proved (crates/script_replay), and that the loop around it is safe and ends (crates/replay). Here are its
+ * What a line means and which bytes answer it is proved (crates/script_replay), and that the loops around it are safe and end (crates/replay). Here are
  * two descriptors and the exit status, which a program in Rattle hasn't got. Whoever closes the other end of a pipe ends it by SIGPIPE, as every filter.
  */
 #include <errno.h>
@@ -10,11 +10,11 @@
 #include <string.h>
 
 /* 0: read to the end, or the first line is bad; 1: the answers can't be written; 2: the script can't be read. */
-int32_t securestore_replay(int32_t input, int32_t output);
+uint32_t securestore_replay(int32_t input, int32_t output);
 
 int main(int argc, char **argv)
 {
-    int32_t status;
+    uint32_t status;
 
     (void)argv;
     if (argc != 1) {
@@ -24,5 +24,5 @@ int main(int argc, char **argv)
     status = securestore_replay(0, 1);
     if (status != 0)
         fprintf(stderr, "replay: can't %s: %s\n", status == 1 ? "write the answers" : "read the script", strerror(errno));
-    return status;
+    return (int)status;
 }

@@ -138,7 +138,7 @@ static struct part data_of(struct part hex, char *room)
 
     room[n++] = '"';
     for (i = 0; i + 1 < hex.len; i += 2) {
-        c = digit(hex.at[i]) * 16 + digit(hex.at[i + 1]);
+        c = digit(hex.at[i]) < 0 || digit(hex.at[i + 1]) < 0 ? -1 : digit(hex.at[i]) * 16 + digit(hex.at[i + 1]);
         if (c < 0x20 || c > 0x7e)
             break;
         room[n++] = (char)c;
@@ -256,6 +256,22 @@ static int fail(const char *what)
     return 1;
 }
 
+/* The next answer: its number, and the bytes behind the tab. 0 where there is none, or it is not a number and a tab. */
+static int read_answer(FILE *answers, struct line *answer, unsigned *number, struct part *rest)
+{
+    struct part first;
+
+    if (!read_line(answers, answer) || answer->len >= LONGEST)
+        return 0;
+    *rest = all_of(answer);
+    first = field(rest);
+    if (first.len == 0 || first.len == answer->len || digit(first.at[0]) < 0)
+        return 0;
+    answer->bytes[first.len] = 0;
+    *number = (unsigned)strtoul((const char *)answer->bytes, NULL, 10);
+    return 1;
+}
+
 /* The lines after the first. */
 static int put_lines(FILE *script, FILE *answers)
 {
@@ -266,11 +282,8 @@ static int put_lines(FILE *script, FILE *answers)
     struct part rest;
 
     while (read_line(script, &line)) {
-        if (!read_line(answers, &answer) || answer.len > LONGEST)
-            return fail("the script has more lines than there are answers");
-        rest = all_of(&answer);
-        answer.bytes[field(&rest).len] = 0;
-        number = (unsigned)strtoul((const char *)answer.bytes, NULL, 10);
+        if (!read_answer(answers, &answer, &number, &rest))
+            return fail("a line has no answer");
         done += number == 0;
         unreadable += number == 15;
         printf("%5lu  ", ++at);
@@ -291,16 +304,28 @@ static int put_lines(FILE *script, FILE *answers)
     return 0;
 }
 
+/* A script that is not played has one answer, 15. */
+static int is_refused(FILE *answers)
+{
+    static struct line answer;
+    unsigned number;
+    struct part rest;
+
+    return read_answer(answers, &answer, &number, &rest) && number == 15 && rest.len == 0 && !read_line(answers, &answer);
+}
+
 static int put_script(FILE *script, FILE *answers)
 {
     static struct line first;
-    unsigned n;
+    int some = read_line(script, &first);
+    unsigned n = some ? places(&first) : 0;
 
-    if (!read_line(script, &first)) {
+    if (n == 0 && !is_refused(answers))
+        return fail("the script is bad, and was not answered with 15 alone");
+    if (!some) {
         puts("The script is empty: answered with 15, and nothing was played");
         return 0;
     }
-    n = places(&first);
     if (n == 0) {
         printf("%5d  ", 1);
         put_whole(&first);

@@ -16,7 +16,7 @@ fail() {
 
 # A path as the caller named it: from where the caller stands, which is in `here`.
 from_here() {
-    case $1 in '' | /*) echo "$1" ;; *) echo "$here/$1" ;; esac
+    case $1 in '' | /*) printf '%s\n' "$1" ;; *) printf '%s\n' "$here/$1" ;; esac
 }
 
 # The comment at the top of a script is its help.

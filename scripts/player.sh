@@ -31,24 +31,30 @@ said_by_rt() {
     grep -v ': proved$' "$place/rt" | tail -n 40 >&2
 }
 
+# The archive, too, since tests/nights links it.
+player_files() {
+    sha256sum target/bin/replay target/staticlib/libreplay.a 2>&1
+}
+
 # Proves the player and builds it, unless it is there and of the same inputs. Where that fails, none is left, and `why` says what failed.
 make_player() {
+    why="the player can't be written"
     say "proving what the player stands on: about three minutes on two cores from nothing, seconds where nothing has changed"
     # shellcheck disable=SC2046 # a list of crates
     prove $(below replay) || not_proved_player || return
     inputs replay scripts/player.sh programs/replay.c | sha256sum >"$place/inputs"
-    sha256sum target/bin/replay >"$place/outputs" 2>&1
+    player_files >"$place/outputs"
     if cat "$place/inputs" "$place/outputs" | cmp -s - target/bin/replay.stamp; then
         say "the player is unchanged"
-        return
+        return 0
     fi
     say "proving and compiling the player (about 30 s)"
-    rm -f target/bin/replay.stamp
+    rm -f target/bin/replay target/bin/replay.stamp
     lead rt staticlib replay >"$place/rt" 2>&1 || not_proved_player || return
     mkdir -p target/bin
     "$cc" -std=c99 -O2 -Wall -Wextra -Wpedantic -Werror programs/replay.c target/staticlib/libreplay.a -o target/bin/replay ||
         no_player "programs/replay.c does not compile, or does not link" || return
-    sha256sum target/bin/replay >"$place/outputs"
+    player_files >"$place/outputs"
     cat "$place/inputs" "$place/outputs" >target/bin/replay.stamp
 }
 

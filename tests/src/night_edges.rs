@@ -474,7 +474,7 @@ fn stories() -> Vec<Edge> {
             "0\t\n0\t\n0\t01\n0\t02\n",
         ),
         edge(
-            "CR before each newline",
+            "CR in a name",
             format!("{KEY}\t1\nset\ta\r\t0\t{IV}\t\nget\ta\r\nget\ta\n"),
             "3\t\n3\t\n6\t\n",
         ),

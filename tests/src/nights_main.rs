@@ -163,7 +163,8 @@ fn endless_lines(seed: u64) -> Checked {
     verdict(&mismatches, format!("{NIGHTS} nights"))
 }
 
-fn due(what: &str, got: i32, due: i32) -> Result<(), String> {
+fn due(what: &str, got: impl Into<i64>, due: i64) -> Result<(), String> {
+    let got = got.into();
     if got == due {
         Ok(())
     } else {

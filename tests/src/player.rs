@@ -12,7 +12,7 @@ use std::thread;
 use reference::nights::Printed;
 
 extern "C" {
-    fn securestore_replay(input: c_int, output: c_int) -> c_int;
+    fn securestore_replay(input: c_int, output: c_int) -> c_uint;
     fn memfd_create(name: *const c_char, flags: c_uint) -> c_int;
     fn pipe2(ends: *mut c_int, flags: c_int) -> c_int;
     fn ioctl(descriptor: c_int, request: c_ulong, ...) -> c_int;
@@ -62,12 +62,12 @@ pub fn pipe() -> (File, File) {
     (owned(ends[0]), owned(ends[1]))
 }
 
-pub fn result(input: RawFd, output: RawFd) -> i32 {
+pub fn result(input: RawFd, output: RawFd) -> u32 {
     // SAFETY: any two numbers will do.
     unsafe { securestore_replay(input, output) }
 }
 
-fn whole_output(result: i32, mut output: File) -> Printed {
+fn whole_output(result: u32, mut output: File) -> Printed {
     let mut printed = Vec::new();
     let read = output.seek(SeekFrom::Start(0));
     let read = read.and_then(|_| output.read_to_end(&mut printed));

@@ -1,11 +1,13 @@
--- What a turn of the program does, as far as a contract can say it: all but which bytes the C library reads and writes.
+-- What the steps of the program do with its buffers and its state. Which bytes the C library reads and writes, no contract can say.
 --   Bounded, BoundedLine   what was read and not used, what is to be written, and what is held of a line lies within its buffer
 --   unused, Taken          a line takes of what was read and not used as `gather` does
---   Appended               an answer stands behind those that are to be written, or they were written and it is the first
+--   Kept, Waits            all of a stream is as it was but what is to be written; nothing was taken, and a read is awaited
+--   Appended               an answer stands behind those that are to be written, or it is the first where there was no room for it behind them
 use mathlib.Core.Path.{_≡_}
 use mathlib.Core.Logic.{_⊎_}
+use mathlib.Core.Bool.{true, false}
 use mathlib.Core.List.{List}
-use Prim.Native.Nat.{ℕ, _+_, _-_, _≤_}
+use Prim.Native.Nat.{ℕ, _+_, _-_, _≤_, _<_}
 use lib.ListN.{length, take, drop}
 use Rattle.buffers.specs.Bytes.{putAt}
 use Rattle.script_replay.specs.Script.{atFront}
@@ -26,12 +28,28 @@ pub record Taken (l r : Line) (chunk line line′ : List ℕ) : Type 0 where
   pub from : r .stream .from ≡ l .stream .from + taken (unused (l .stream) chunk)
   pub to : r .stream .to ≡ l .stream .to
   pub used : r .stream .used ≡ l .stream .used
+  pub ended : r .stream .ended ≡ l .stream .ended
+  pub status : r .stream .status ≡ l .stream .status
   pub len : r .len ≡ length (held heldSize (take (l .len) line) (unused (l .stream) chunk))
   pub whole : r .whole ≡ endsLine (unused (l .stream) chunk)
   pub bytes : line′ ≡ atFront (held heldSize (take (l .len) line) (unused (l .stream) chunk)) line
 
+-- of a line whose read is used up
+pub record Waits (l r : Line) (line line′ : List ℕ) : Type 0 where
+  pub len : r .len ≡ l .len
+  pub whole : r .whole ≡ false
+  pub bytes : line′ ≡ line
+
+abbrev pub Kept : Stream → Stream → Type 0
+Kept s r = (r .from ≡ s .from) × (r .to ≡ s .to) × (r .ended ≡ s .ended) × (r .status ≡ s .status)
+
+-- kept, or ended, since the answers can't be written
+abbrev pub KeptOrEnded : Stream → Stream → Type 0
+KeptOrEnded s r = Kept s r ⊎ ((r .ended ≡ true) × (r .status ≡ 1))
+
 pub record Appended (s r : Stream) (answers answers′ answer : List ℕ) : Type 0 where
   pub at : ℕ
-  pub place : (at ≡ s .used) ⊎ (at ≡ 0)
+  pub place : (at ≡ s .used) ⊎ ((64512 < s .used) × (at ≡ 0))
+  pub kept : KeptOrEnded s r
   pub used : r .used ≡ at + length answer
   pub bytes : answers′ ≡ putAt answers at answer

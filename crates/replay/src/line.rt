@@ -5,8 +5,11 @@ use crate::stream::Stream;
 use script_replay::gather;
 use script_replay::gather::HELD_SIZE;
 ghost use mathlib.Core.Path.{_≡_};
+ghost use mathlib.Core.Bool.{_&&_, _||_};
+ghost use Prim.Native.Nat.{_≤_, _<_};
+ghost use lib.Dec.{eqb, ltb};
 ghost use lib.ListN.{length};
-ghost use Rattle.replay.specs.Turns.{Bounded, BoundedLine, Taken};
+ghost use Rattle.replay.specs.Turns.{Bounded, BoundedLine, Taken, Waits};
 
 // The first `len` bytes of a line are held, and whether its newline has come.
 pub struct Line {
@@ -49,6 +52,8 @@ fn gather_some(
 ) -> Line
     requires { ⌜ BoundedLine l ⌝ }
     ensures { λ r. ⌜ BoundedLine r ⌝ }
+    ensures { λ r. ⌜ (l .stream .from < l .stream .to → Taken l r (now (chunk .entry)) (now (line .entry)) (now (line .exit))) ⌝ }
+    ensures { λ r. ⌜ (l .stream .to ≤ l .stream .from → Waits l r (now (line .entry)) (now (line .exit))) ⌝ }
 {
     let s = l.stream;
     if s.to <= s.from {
@@ -87,7 +92,15 @@ pub(crate) fn next_line(
 
 impl Line {
     // Whether there is one: the last may lack its newline. What came before a read that failed is none.
-    pub(crate) fn is_there(self) -> bool {
-        self.whole || 0 < self.len && self.stream.status == stream::OK
+    pub(crate) fn is_there(self) -> bool
+        ensures { λ r. ⌜ r ≡ (self .whole || (ltb 0 (self .len) && eqb (self .stream .status) 0)) ⌝ }
+    {
+        if self.whole {
+            return true;
+        }
+        if self.len < 1 {
+            return false;
+        }
+        self.stream.status == stream::OK
     }
 }

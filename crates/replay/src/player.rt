@@ -13,6 +13,8 @@ use script_replay::step;
 ghost use Prim.Native.Nat.{_≤_};
 ghost use mathlib.Core.Path.{_≡_};
 ghost use lib.ListN.{take};
+ghost use mathlib.Core.List.{[]};
+ghost use Rattle.script_replay.specs.Script.{errSyntax, answerLine};
 ghost use Rattle.script_replay.specs.Replay.{«step» as Replay·step};
 ghost use Rattle.replay.specs.Turns.{Bounded, BoundedLine, Appended};
 
@@ -92,6 +94,7 @@ fn play_from_empty(
 fn play_unreadable(s: Stream, answers: &mut [u8; BUFFER_SIZE]) -> Stream
     requires { ⌜ Bounded s ⌝ }
     ensures { λ r. ⌜ Bounded r ⌝ }
+    ensures { λ r. ⌜ Appended s r (now (answers .entry)) (now (answers .exit)) (answerLine errSyntax []) ⌝ }
 {
     let mut answer = [0u8; ANSWER_SIZE];
     let n = answer::put_unreadable(&mut answer);
@@ -99,7 +102,7 @@ fn play_unreadable(s: Stream, answers: &mut [u8; BUFFER_SIZE]) -> Stream
 }
 
 // What is left is written.
-fn finish(s: Stream, answers: &[u8; BUFFER_SIZE]) -> i32
+fn finish(s: Stream, answers: &[u8; BUFFER_SIZE]) -> u32
     requires { ⌜ Bounded s ⌝ }
 {
     if s.status == stream::ERR_OUTPUT {
@@ -113,7 +116,7 @@ pub(crate) fn play(
     chunk: &mut [u8; BUFFER_SIZE],
     answers: &mut [u8; BUFFER_SIZE],
     line: &mut [u8; HELD_SIZE],
-) -> i32
+) -> u32
     requires { ⌜ Bounded s ⌝ }
 {
     let first = line::next_line(s, chunk, answers, line);

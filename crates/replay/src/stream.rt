@@ -4,17 +4,18 @@ use buffers::parts;
 use script_replay::answer::ANSWER_SIZE;
 ghost use mathlib.Core.Path.{_≡_};
 ghost use mathlib.Core.Logic.{_⊎_};
-ghost use Prim.Native.Nat.{_≤_};
+ghost use mathlib.Core.Bool.{true};
+ghost use Prim.Native.Nat.{_≤_, _<_};
 ghost use lib.ListN.{length};
-ghost use Rattle.replay.specs.Turns.{Bounded, Appended};
+ghost use Rattle.replay.specs.Turns.{Bounded, KeptOrEnded, Appended};
 
 pub const BUFFER_SIZE: usize = 65536;
 
-pub const OK: i32 = 0;
+pub const OK: u32 = 0;
 
-pub const ERR_OUTPUT: i32 = 1;
+pub const ERR_OUTPUT: u32 = 1;
 
-pub const ERR_INPUT: i32 = 2;
+pub const ERR_INPUT: u32 = 2;
 
 // Of the bytes that were read last, those from `from` to `to` are not used yet; of the answers, the first `used` are to be written.
 pub struct Stream {
@@ -24,7 +25,7 @@ pub struct Stream {
     pub to: usize,
     pub used: usize,
     pub ended: bool,
-    pub status: i32,
+    pub status: u32,
 }
 
 pub(crate) fn begin(input: i32, output: i32) -> Stream
@@ -42,9 +43,9 @@ pub(crate) fn begin(input: i32, output: i32) -> Stream
 }
 
 // No more is read.
-fn end(s: Stream, used: usize, status: i32) -> Stream
+fn end(s: Stream, used: usize, status: u32) -> Stream
     requires { ⌜ used ≤ 65536 ⌝ }
-    ensures { λ r. ⌜ Bounded r × (r .used ≡ used) ⌝ }
+    ensures { λ r. ⌜ Bounded r × (r .used ≡ used) × (r .ended ≡ true) × (r .status ≡ status) ⌝ }
 {
     Stream {
         input: s.input,
@@ -60,7 +61,7 @@ fn end(s: Stream, used: usize, status: i32) -> Stream
 // What is to be written is written.
 pub(crate) fn flush(s: Stream, answers: &[u8; BUFFER_SIZE]) -> Stream
     requires { ⌜ Bounded s ⌝ }
-    ensures { λ r. ⌜ Bounded r × (r .used ≡ 0) ⌝ }
+    ensures { λ r. ⌜ Bounded r × (r .used ≡ 0) × KeptOrEnded s r ⌝ }
 {
     let used = s.used;
     let all: &[u8] = answers;
@@ -119,7 +120,7 @@ pub(crate) fn refill(
 // Room for one more answer.
 fn make_room(s: Stream, answers: &[u8; BUFFER_SIZE]) -> Stream
     requires { ⌜ Bounded s ⌝ }
-    ensures { λ r. ⌜ Bounded r × (r .used ≤ 64512) × ((r .used ≡ s .used) ⊎ (r .used ≡ 0)) ⌝ }
+    ensures { λ r. ⌜ Bounded r × (r .used ≤ 64512) × ((r .used ≡ s .used) ⊎ ((64512 < s .used) × (r .used ≡ 0))) × KeptOrEnded s r ⌝ }
 {
     if BUFFER_SIZE - ANSWER_SIZE < s.used {
         return flush(s, answers);

@@ -98,6 +98,7 @@ unfolding replay
 stream-laws = record {
   next = next;
   within = taken-within;
+  progress = λ b s. split (eqb b newline) (λ e. rw e (omega arith)) (λ e. rw (taken-suc b s e) (omega arith));
   all = λ room input h. rw (take-nil room) at (behind room [] input h refl);
   enough = λ input. enough (lines input);
 }

@@ -1,6 +1,6 @@
 -- What is stated of 02, No. 6. `proofs/Theorems` has each statement with its proof.
 --   Header, HeaderExact            the first line
---   SaysSet, Readable, LineExact   which line is which call, and that every other can't be read
+--   SaysSet, Readable, Words, LineExact   which line is which call, and that every other can't be read
 --   AnswerLaws                     the answer to a line is one line, at the front of its buffer
 --   Answers, EveryLine             demand 1 for a line
 --   afterLines, ReplayExact        a whole script, line by line
@@ -171,7 +171,9 @@ pub record StreamLaws : Type 0 where
   pub next : (room : ℕ) (line part more : List ℕ) → length line ≤ room
       → heldLines room line (part ++ more)
       ≡ cond (endsLine part) (held room line part ∷ heldLines room [] (drop (taken part) part ++ more)) (heldLines room (held room line part) (drop (taken part) part ++ more))
+  -- what is taken is there, and where there is anything, something is
   pub within : (part : List ℕ) → taken part ≤ length part
+  pub progress : (b : ℕ) (part : List ℕ) → 1 ≤ taken (b ∷ part)
   -- from the start, the lines that are held are those of the whole input, cut
   pub all : (room : ℕ) (input : List ℕ) → 1 ≤ room → heldLines room [] input ≡ map (take room) (lines input)
   -- what is held of a line is enough

@@ -13,10 +13,10 @@ flush-requires : tie.Need-flush-requires
 flush-requires c κs = search needs
 
 returns : tie.Need-returns
-returns c = (c .flush .ensures .0, omega (arith, c .flush .ensures .1), inr (c .flush .ensures .1))
+returns c = let f = c .flush .ensures in (f .0, omega (arith, f .1), inr (c .before .if1 .taken, f .1), f .2)
 
 returns-2 : tie.Need-returns-2
-returns-2 c = (c .before .before .pre, c .if1 .left, inl refl)
+returns-2 c = (c .before .before .pre, c .if1 .left, inl refl, inl (refl, refl, refl, refl))
 
 pub make-room-spec : {M : Type 1} → statement M
 make-room-spec = tie.close (tie.spec sub-if1 flush-requires returns returns-2)
