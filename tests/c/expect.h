@@ -12,10 +12,16 @@
 static unsigned wrong;
 #define TOLD 5u
 
+/* What a test may tell besides. */
+#ifndef EXPECT_DETAIL
+#define EXPECT_DETAIL() ((void)0)
+#endif
+
 static void expect(int holds, const char *what)
 {
     if (!holds && wrong++ < TOLD) {
         printf("failed: %s\n", what);
+        EXPECT_DETAIL();
     }
 }
 

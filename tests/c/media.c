@@ -1,10 +1,13 @@
 /* Holds what securestore.h says about media against the library: records that ask for less protection than the chip has, power lost between the two
  * writes, chip slots left over, write once under another card, erased flash. A statement there that is false fails here. Compiled as C99 and as C++.
  * The last line is 'N passed, M failed'. */
-#include <stdio.h>
+#include <stdint.h>
 #include <string.h>
 
-#include "securestore.h"
+/* The flags of the record in question and those of the call tried on it, for the message. */
+static uint32_t stored_flags, tried_flags;
+#define EXPECT_DETAIL() printf("  stored with flags %u, tried with %u\n", (unsigned)stored_flags, (unsigned)tried_flags)
+#include "expect.h"
 
 #define SLOTS 3u
 #define PROTECTED (SECURESTORE_REQUIRE_INTEGRITY | SECURESTORE_REQUIRE_REPLAY_PROTECTION)
@@ -38,28 +41,6 @@ static const struct planted {
 
 /* And where the name is free. */
 static const securestore_status FREE[FLAGS_COUNT] = {0, 0, 0, 0, 0, 0, 0, 0, 0, 0, 0, 0};
-
-/* Answers that were not as expected. A test passes if it has none. */
-static unsigned wrong;
-
-/* The flags of the record in question and those of the call tried on it, for the message. */
-static uint32_t stored_flags, tried_flags;
-
-static void expect(int holds, const char *what)
-{
-    if (!holds) {
-        wrong++;
-        printf("failed: %s (stored with flags %u, tried with %u)\n", what, (unsigned)stored_flags, (unsigned)tried_flags);
-    }
-}
-
-static void expect_status(securestore_status status, securestore_status want, const char *what)
-{
-    expect(status == want, what);
-    if (status != want) {
-        printf("  answered %u (%s), not %u\n", (unsigned)status, securestore_status_text(status), (unsigned)want);
-    }
-}
 
 static securestore_status set_named(const char *name, uint32_t flags)
 {
@@ -614,17 +595,5 @@ int main(void)
 {
     static void (*const tests[])(void) = {test_planted,    test_planted_key, test_not_in_chip, test_power_one_write, test_power, test_power_write_once,
                                           test_clear_room, test_write_once,  test_erased_flash};
-    unsigned passed = 0, failed = 0;
-    size_t i;
-    for (i = 0; i < sizeof tests / sizeof tests[0]; i++) {
-        wrong = 0;
-        tests[i]();
-        if (wrong == 0) {
-            passed++;
-        } else {
-            failed++;
-        }
-    }
-    printf("%u passed, %u failed\n", passed, failed);
-    return failed != 0;
+    return run_tests(tests, COUNT_OF(tests));
 }

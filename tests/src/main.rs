@@ -9,6 +9,7 @@ use std::process::ExitCode;
 
 use driver::Options;
 use reference::edges;
+use reference::score::exit_of;
 
 const USAGE: &str = include_str!("../usage.txt");
 
@@ -42,26 +43,11 @@ fn options(mut arguments: impl Iterator<Item = String>) -> Result<Option<Options
 }
 
 fn main() -> ExitCode {
-    let options = match options(std::env::args().skip(1)) {
-        Ok(Some(options)) => options,
-        Ok(None) => {
-            print!("{USAGE}");
-            return ExitCode::SUCCESS;
+    exit_of(options(std::env::args().skip(1)), USAGE, |options| {
+        if options.all_floats {
+            driver::all_floats()
+        } else {
+            driver::run(&ffi::Product, options)
         }
-        Err(why) => {
-            eprint!("{why}\n{USAGE}");
-            return ExitCode::from(2);
-        }
-    };
-    let score = if options.all_floats {
-        driver::all_floats()
-    } else {
-        driver::run(&ffi::Product, &options)
-    };
-    println!("{} passed, {} failed", score.passed, score.failed);
-    if score.failed > 0 {
-        ExitCode::FAILURE
-    } else {
-        ExitCode::SUCCESS
-    }
+    })
 }

@@ -14,7 +14,7 @@ use std::thread;
 use reference::ciphers::Checked;
 use reference::nights::{self, Plays, Printed, Tally};
 use reference::rng::Rng;
-use reference::score::{coverage, in_parts, verdict, Score};
+use reference::score::{coverage, exit_of, in_parts, verdict, Score};
 use reference::{night_edges, replay};
 
 const USAGE: &str = include_str!("../nights.txt");
@@ -57,24 +57,7 @@ fn program() -> PathBuf {
 }
 
 fn main() -> ExitCode {
-    let options = match options(env::args().skip(1)) {
-        Ok(Some(options)) => options,
-        Ok(None) => {
-            print!("{USAGE}");
-            return ExitCode::SUCCESS;
-        }
-        Err(why) => {
-            eprint!("{why}\n{USAGE}");
-            return ExitCode::from(2);
-        }
-    };
-    let score = run(&options);
-    println!("{} passed, {} failed", score.passed, score.failed);
-    if score.failed > 0 {
-        ExitCode::FAILURE
-    } else {
-        ExitCode::SUCCESS
-    }
+    exit_of(options(env::args().skip(1)), USAGE, run)
 }
 
 fn run(options: &Options) -> Score {

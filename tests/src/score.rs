@@ -1,5 +1,6 @@
 //! The score of a run: named checks, a line each, and cases on a few threads.
 
+use std::process::ExitCode;
 use std::thread;
 
 use crate::ciphers::Checked;
@@ -85,5 +86,32 @@ pub fn coverage(gaps: &[String]) -> Checked {
             "missing, or not to be answered: {}",
             gaps.join(", ")
         ))
+    }
+}
+
+/// A whole run by its options, where `None` asks for help: the last line, and the exit
+/// status.
+pub fn exit_of<O>(
+    options: Result<Option<O>, String>,
+    usage: &str,
+    run: impl Fn(&O) -> Score,
+) -> ExitCode {
+    let options = match options {
+        Ok(Some(options)) => options,
+        Ok(None) => {
+            print!("{usage}");
+            return ExitCode::SUCCESS;
+        }
+        Err(why) => {
+            eprint!("{why}\n{usage}");
+            return ExitCode::from(2);
+        }
+    };
+    let score = run(&options);
+    println!("{} passed, {} failed", score.passed, score.failed);
+    if score.failed > 0 {
+        ExitCode::FAILURE
+    } else {
+        ExitCode::SUCCESS
     }
 }

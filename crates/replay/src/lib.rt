@@ -9,10 +9,13 @@ mod stream;
 
 use script_replay::gather;
 use stream::BUFFER_SIZE;
+ghost use Prim.Native.Nat.{_≤_};
 
 // 0 where the script was read to its end, or its first line is bad; 1 where the answers can't be written; 2 where the script can't be read.
 #[no_mangle]
-pub extern "C" fn securestore_replay(input: i32, output: i32) -> u32 {
+pub extern "C" fn securestore_replay(input: i32, output: i32) -> u32
+    ensures { λ r. ⌜ r ≤ 2 ⌝ }
+{
     let mut chunk = [0u8; BUFFER_SIZE];
     let mut answers = [0u8; BUFFER_SIZE];
     let mut line = gather::held_buffer();

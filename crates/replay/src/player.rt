@@ -104,6 +104,7 @@ fn play_unreadable(s: Stream, answers: &mut [u8; BUFFER_SIZE]) -> Stream
 // What is left is written.
 fn finish(s: Stream, answers: &[u8; BUFFER_SIZE]) -> u32
     requires { ⌜ Bounded s ⌝ }
+    ensures { λ r. ⌜ r ≤ 2 ⌝ }
 {
     if s.status == stream::ERR_OUTPUT {
         return s.status;
@@ -118,6 +119,7 @@ pub(crate) fn play(
     line: &mut [u8; HELD_SIZE],
 ) -> u32
     requires { ⌜ Bounded s ⌝ }
+    ensures { λ r. ⌜ r ≤ 2 ⌝ }
 {
     let first = line::next_line(s, chunk, answers, line);
     if first.stream.status != stream::OK {

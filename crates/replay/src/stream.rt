@@ -7,7 +7,7 @@ ghost use mathlib.Core.Logic.{_⊎_};
 ghost use mathlib.Core.Bool.{true};
 ghost use Prim.Native.Nat.{_≤_, _<_};
 ghost use lib.ListN.{length};
-ghost use Rattle.replay.specs.Turns.{Bounded, KeptOrEnded, Appended};
+ghost use Rattle.replay.specs.Turns.{Bounded, KeptOrEnded, Read, Appended};
 
 pub const BUFFER_SIZE: usize = 65536;
 
@@ -44,8 +44,9 @@ pub(crate) fn begin(input: i32, output: i32) -> Stream
 
 // No more is read.
 fn end(s: Stream, used: usize, status: u32) -> Stream
-    requires { ⌜ used ≤ 65536 ⌝ }
+    requires { ⌜ (used ≤ 65536) × (status ≤ 2) ⌝ }
     ensures { λ r. ⌜ Bounded r × (r .used ≡ used) × (r .ended ≡ true) × (r .status ≡ status) ⌝ }
+    ensures { λ r. ⌜ (r .input ≡ s .input) × (r .output ≡ s .output) × (r .from ≡ 0) × (r .to ≡ 0) ⌝ }
 {
     Stream {
         input: s.input,
@@ -82,19 +83,21 @@ pub(crate) fn flush(s: Stream, answers: &[u8; BUFFER_SIZE]) -> Stream
 fn read(s: Stream, chunk: &mut [u8; BUFFER_SIZE]) -> Stream
     requires { ⌜ Bounded s ⌝ }
     ensures { λ r. ⌜ Bounded r ⌝ }
+    ensures { λ r. ⌜ Read s r ⌝ }
 {
     let got = libc::read(s.input, chunk);
     if got < 0 {
         return end(s, s.used, ERR_INPUT);
     }
-    if got == 0 {
+    let to = io::count(got, chunk);
+    if to < 1 {
         return end(s, s.used, s.status);
     }
     Stream {
         input: s.input,
         output: s.output,
         from: 0,
-        to: io::count(got, chunk),
+        to,
         used: s.used,
         ended: s.ended,
         status: s.status,

@@ -68,7 +68,7 @@ take-min k l = split (leb k (length l))
     take-all k l (omega (arith, leb-false k (length l) e)) ∙ sym (take-length l) ∙ ap (λ (j : ℕ). take j l) z)
 
 -- how many bytes are copied, of a read's part into the rest of the line's buffer
-pub copied-count : (line part src : List ℕ) (at n : ℕ) → n ≡ min (length (take (length line - at) (drop at line))) (length src) → src ≡ untilNewline part
+copied-count : (line part src : List ℕ) (at n : ℕ) → n ≡ min (length (take (length line - at) (drop at line))) (length src) → src ≡ untilNewline part
     → n ≡ min (length line - at) (length (untilNewline part))
 copied-count line part src at n p e =
     omega (arith, p, length-take (length line - at) (drop at line), length-drop at line, ap (λ (l : List ℕ). length l) e)
@@ -86,10 +86,10 @@ module _ (line part : List ℕ) (len at n : ℕ) (e : at ≡ min len (length lin
       ∙ take-append-add (take at line) u (length line - at)
       ∙ ap (λ (x : List ℕ). take at line ++ x) (take-min (length line - at) u ∙ ap (λ (k : ℕ). take k u) (sym m))
 
-  pub held-length : at + n ≡ length (held (length line) (take len line) part)
+  held-length : at + n ≡ length (held (length line) (take len line) part)
   held-length = omega (arith, ap (λ (l : List ℕ). length l) held-parts, length-append (take at line) tail, length-take at line, length-take n (untilNewline part))
 
-  pub held-put : (last : List ℕ) → last ≡ tail ++ drop n (take (length line - at) (drop at line))
+  held-put : (last : List ℕ) → last ≡ tail ++ drop n (take (length line - at) (drop at line))
       → putMid at (length line - at) line last ≡ atFront (held (length line) (take len line) part) line
   held-put last p =
       let none : drop (length line - at) (drop at line) ≡ [] = drop-of-length-le (drop at line) {i = length line - at} (omega (arith, length-drop at line)) in
@@ -98,6 +98,17 @@ module _ (line part : List ℕ) (len at n : ℕ) (e : at ≡ min len (length lin
       (sym (append-assoc (take at line) tail (drop (at + n) line)))
       ∙ ap (λ (k : ℕ). (take at line ++ tail) ++ drop k line) held-length
       ∙ ap (λ (l : List ℕ). l ++ drop (length h) line) (sym held-parts)
+
+-- both, as the copy tells them
+pub held-copied : (line part src last : List ℕ) (len at n : ℕ) → at ≡ min len (length line) → src ≡ untilNewline part
+    → n ≡ min (length (take (length line - at) (drop at line))) (length src) → last ≡ take n src ++ drop n (take (length line - at) (drop at line))
+    → (at + n ≡ length (held (length line) (take len line) part))
+    × (putMid at (length line - at) line last ≡ atFront (held (length line) (take len line) part) line)
+held-copied line part src last len at n e u p q =
+    let m = copied-count line part src at n p u in (
+      held-length line part len at n e m,
+      held-put line part len at n e m last (q ∙ ap (λ (l : List ℕ). take n l ++ drop n (take (length line - at) (drop at line))) u),
+    )
 
 -- ---- bounds
 

@@ -11,14 +11,13 @@ use mathlib.Core.Path.{_≡_}
 use mathlib.Core.Logic.{_≢_, _⊎_}
 use mathlib.Core.Bool.{true, false, cond}
 use mathlib.Core.List.{List, [], _∷_, _++_, map}
-use Prim.Native.Nat.{ℕ, _+_, _*_, _≤_}
+use Prim.Native.Nat.{ℕ, _*_, _≤_}
 use lib.ListN.{length, getD, take, drop}
 use Rattle.buffers.specs.Bytes.{zeros}
 use Rattle.text.specs.Parts.{parts, lines}
 use Rattle.text.specs.Hex.{isHex, hexBytes, hexText}
 use Rattle.text.specs.Decimal.{isDecimal, decimalValue, decimalText}
-use Rattle.spec.specs.Status.{isListed, Answer}
-use Rattle.spec.specs.Interleaving.{Outcome}
+use Rattle.spec.specs.Status.{isListed}
 use Rattle.spec.specs.Calls.{Areas, areas, storeSet, storeGet, storeRemove}
 use Rattle.script_replay.specs.Script.{setWord, getWord, removeWord, header, answerLine, atFront}
 use Rattle.script_replay.specs.Replay.{Played, step, play, replayLines, replay}

@@ -43,8 +43,10 @@ returns c =
     let z : length line ≡ 1101 = omega arith in
     let part = take (s .to - s .from) (drop (s .from) (a .chunk .now)) in
     let g = gathered .ensures .0 in (
-      ((omega (arith, w .0, b .0), b .1, b .2), omega (arith, w .1)),
+      ((omega (arith, w .0, b .0), b .1, b .2, b .3), omega (arith, w .1)),
       record {
+        input = search needs;
+        output = search needs;
         from = ap (λ (r : Gathered). s .from + r .taken) g;
         to = refl;
         used = refl;

@@ -22,12 +22,12 @@ end-requires : tie.Need-end-requires
 end-requires c κs = search needs
 
 returns : tie.Need-returns
-returns c = let e = c .end .ensures in (e .0, e .1, inr (e .2, e .3))
+returns c = let e = c .end .ensures .0 in (e .0, e .1, inr (e .2, e .3))
 
 returns-2 : tie.Need-returns-2
 returns-2 c =
     let pre = c .before .before .before .before .before .before .pre in
-    ((pre .0, pre .1, omega arith), refl, inl (refl, refl, refl, refl))
+    ((pre .0, pre .1, omega arith, pre .3), refl, inl (search needs, search needs, refl, refl, refl, refl))
 
 pub flush-spec : {M : Type 1} → statement M
 flush-spec =

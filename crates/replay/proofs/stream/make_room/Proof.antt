@@ -16,7 +16,7 @@ returns : tie.Need-returns
 returns c = let f = c .flush .ensures in (f .0, omega (arith, f .1), inr (c .before .if1 .taken, f .1), f .2)
 
 returns-2 : tie.Need-returns-2
-returns-2 c = (c .before .before .pre, c .if1 .left, inl refl, inl (refl, refl, refl, refl))
+returns-2 c = (c .before .before .pre, c .if1 .left, inl refl, inl (refl, refl, refl, refl, refl, refl))
 
 pub make-room-spec : {M : Type 1} → statement M
 make-room-spec = tie.close (tie.spec sub-if1 flush-requires returns returns-2)

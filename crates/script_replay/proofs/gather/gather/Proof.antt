@@ -1,10 +1,7 @@
 -- `script_replay::gather::gather`: up to the newline, as much as there is room for.
-use mathlib.Core.Path.{_∙_, ap}
-use mathlib.Core.List.{List, _++_}
-use Prim.Native.Nat.{ℕ, _-_}
-use lib.ListN.{length, take, drop}
+use lib.ListN.{length, take}
 use borrow.Author.Needs.{needs}
-use Rattle.script_replay.proofs.Gathering.{found-until, part-until, line-ended, line-open, copied-count, held-length, held-put}
+use Rattle.script_replay.proofs.Gathering.{found-until, part-until, line-ended, line-open, held-copied}
 use Rattle.script_replay.proofs.gather.gather.Statement.{statement}
 use Rattle.script_replay.proofs.gather.gather.Tie as tie
 
@@ -53,15 +50,9 @@ returns c =
     let line = a .line .now in
     let part = a .part .now in
     let e = found .find .ensures .0 in
-    let until = part-until part _ e in
-    let at = least .least .result in
-    let n = copied .copy-fitting .result in
-    let m = copied-count line part _ at n (copied .copy-fitting .ensures .0) until in
-    let put = copied .copy-fitting .ensures .1 ∙ ap (λ (l : List ℕ). take n l ++ drop n (take (length line - at) (drop at line))) until in
-    let room = least .least .ensures in (
-      line-ended (length line) (take (a .len) line) part _ _ (held-length line part (a .len) at n room m) (found-until part _ e) (c .if1 .taken),
-      held-put line part (a .len) at n room m _ put,
-    )
+    let told = copied .copy-fitting .ensures in
+    let put = held-copied line part _ _ (a .len) (least .least .result) (copied .copy-fitting .result) (least .least .ensures) (part-until part _ e) (told .0) (told .1) in
+    (line-ended (length line) (take (a .len) line) part _ _ (put .0) (found-until part _ e) (c .if1 .taken), put .1)
 
 add-t13 : tie.Need-add-t13
 add-t13 c = search needs
@@ -78,15 +69,9 @@ returns-2 c =
     let line = a .line .now in
     let part = a .part .now in
     let e = found .find .ensures .0 in
-    let until = part-until part _ e in
-    let at = least .least .result in
-    let n = copied .copy-fitting .result in
-    let m = copied-count line part _ at n (copied .copy-fitting .ensures .0) until in
-    let put = copied .copy-fitting .ensures .1 ∙ ap (λ (l : List ℕ). take n l ++ drop n (take (length line - at) (drop at line))) until in
-    let room = least .least .ensures in (
-      line-open (length line) (take (a .len) line) part _ _ (held-length line part (a .len) at n room m) (found-until part _ e) (c .if1 .left),
-      held-put line part (a .len) at n room m _ put,
-    )
+    let told = copied .copy-fitting .ensures in
+    let put = held-copied line part _ _ (a .len) (least .least .result) (copied .copy-fitting .result) (least .least .ensures) (part-until part _ e) (told .0) (told .1) in
+    (line-open (length line) (take (a .len) line) part _ _ (put .0) (found-until part _ e) (c .if1 .left), put .1)
 
 pub gather-spec : {M : Type 1} → statement M
 gather-spec =
