@@ -1,4 +1,4 @@
-/* securestore: named records over a removable card and a small protected chip. Link libsecurestore.a, which needs memcpy and memset and nothing else.
+/* securestore: named records over a removable card and a small protected chip. Link libsecurestore.a, which needs memcpy, memmove and memset and nothing else.
  *
  * The library keeps nothing between calls, allocates nothing and does no input or output. The caller reads the card (kv) and the chip (rbp) into two
  * buffers, lends them to a call, and writes both back, the chip first, after a set, set_finalize, save_key, store_mix, remove or reset that answered
@@ -22,6 +22,24 @@
  * upper and lower case differ, and an accented letter in UTF-8 and in Latin-1 gives two names. So names are bytes, with no terminator: whoever shows them
  * must expect any of these bytes, also broken UTF-8 and 0x80 to 0x9f, which some terminals obey (examples/rollback.c shows what is not ASCII as \xNN).
  * Versions before 0.2.0 knew 0x21 to 0x7e alone. To a box with one of them a card or chip with another name is damaged: give all boxes 0.2.0 first.
+ *
+ * Slots. The used slots of the card stand at its front, in the order of their names, and the free ones, all zero, behind them; so do those of the chip. Names
+ * are compared byte by byte as unsigned numbers, and a name comes before all that it is a prefix of. Any other order is damage (2).
+ * - A set of a new name puts its slot in its place, and the used slots behind it move one on. A set of a known name writes that name's slot alone. A remove
+ *   takes the slot out, the used ones behind it move one back, and what was the last used slot becomes all zero. Card and chip move each by its own names. So
+ *   the number of a slot holds until the next set of a new name or the next remove; what this means for a walk is said at securestore_iterator_next.
+ * - Its length and what it holds fix every byte of an undamaged card, in whatever order things came there: two cards of one length are equal under memcmp just
+ *   where they have the same names with the same records. So it is with two chips. A record is meant with all its bytes: with another IV, or under another
+ *   device key, the same data give other ones (examples/compare.c).
+ * - To take a slot out by hand, move all slots behind it one back and make the last slot of the buffer all zero. A slot that is made all zero where it stands
+ *   leaves a hole, which is damage, unless it is the last used one.
+ * - Versions before 0.7.0 gave a new name the lowest free slot, and a remove left a hole. Their cards and chips answer 2 here, unless all used slots happen
+ *   to stand at the front and in order. Nothing on them is lost: reset nothing, but sort the slots, those of the card and those of the chip, and write both to
+ *   another place (examples/compare.c; see Power). No byte within a slot changes, so each record is what it was, write once or not, and so is what the chip
+ *   knows; device key and older version are not needed. Where it still answers 2, a slot is bad in itself or a name stands twice. The other way is to read
+ *   each record by the older version, with its flags, and to set it by this one on another card and chip that are all zero, write-once ones too, with a new
+ *   IV; what the older version refuses to read is left behind so.
+ *   An older version reads what this one wrote, but after a set or remove of its own the order may be lost: give all boxes 0.7.0 first.
  *
  * Protection is what the stored record's flags ask for, and these flags are on the card; but a name that the chip holds is read and set with replay
  * protection alone. The chip holds it from a set with replay protection until such a record of it is removed or all is reset. In this time get and get_info
@@ -61,11 +79,11 @@
  * - store_mix does not ask whether another record holds the session, so there may come to be two; then find_mix answers 21 for it until one is removed or
  *   stored with another number. To keep a session's new mix, store it under the name and with the flags that the old one has.
  * - find_mix tries every record on the card whose name begins with "mix/", as a get would. One that get refuses (8, 11, 12) or whose data are no mix (20)
- *   may be the one that is looked for or a second one, so every find, of any session, then answers that number: of several the one in the lowest slot. A
+ *   may be the one that is looked for or a second one, so every find, of any session, then answers that number: of several that of the first name. A
  *   plain set can put such data there, and so can whoever writes the card; power that is lost while a mix with replay protection is written back can leave
  *   such a record. To get out of it, go over the names with iterator_next and the prefix "mix/", get each and decode what it gives: the first that is
  *   refused is the bad one. Remove it, or store it again with its own flags. Where both answer 7 or 8 (write once, or not well formed), what helps is the
- *   right card, or the record's slot made all zero in the card's buffer, or a reset.
+ *   right card, or the record's slot taken out of the card's buffer by hand, or a reset.
  * - A name that the chip alone holds is not tried. So where the card lost a mix with replay protection, find_mix answers 6 and a get of its name 12.
  * - A session number is no secret and shows nothing of who asks: whoever gives it is given the mix. It is part of the record's data, so it can be read on
  *   the card where confidentiality is not asked for. Who may come back is for the caller to test.
@@ -83,6 +101,13 @@
  * - The chip has the name, the card has not. Whatever the lost record's flags, remove answers 6, a set with write once 7, any other set 12 without replay
  *   protection and 0 with it. Clearing the chip's slot, as below, makes the name free again, for any flags; no reset is needed.
  * So write the chip first: a write-once set then ends in the second state, and a remove can be repeated. A reset can be repeated in either order.
+ * A write that is itself cut short is worse, and can harm records that the call was not about: a set of a new name and a remove change every slot from the
+ * name's place to the last used one. The medium may then answer 2 to all calls but reset, since a name stands twice or a slot is half written. Or, after a set
+ * that was written from front to back or a remove that was written from back to front, it may be in order and lack a slot that was only to move, or the slot in
+ * which the write stopped has the name of one record and bytes of another, or zeros. A get of a name that was only to move then answers 6, 8, 11 or 12; of a
+ * record without replay protection it may answer 0 with another record's data or with zeros. So do not write over the only copy. Keep two areas on each
+ * medium, card and chip, write them in turn with a number and a check sum of the caller's, and take the newest that is whole: then a write that was cut short
+ * is as one that was not begun, and the states above are all that there are.
  *
  * Chip slots left over. After a power loss as above, or where another card is put in or someone wrote to it, the chip may hold a name that the card lacks
  * or has in a record without replay protection. Get and get_info answer 12 (8 or 11 if that record is bad in itself), and the slot occupies the chip. The
@@ -91,8 +116,8 @@
  *   slot on the card (else the set answers 10) and none in the chip, and it leaves the card's bytes as they were.
  * - The card has a record of it without replay protection. No set answers 0; one with the record's flags answers 12. Remove clears the card's slot and keeps
  *   the chip's: now the card lacks the name, and it has a free slot.
- * - That record is write once, or not well formed. Every set and every remove answers 7, or 8. What helps is the right card, or the record's slot made all
- *   zero in the card's buffer (now the card lacks the name), or a reset.
+ * - That record is write once, or not well formed. Every set and every remove answers 7, or 8. What helps is the right card, or the record's slot taken out
+ *   of the card's buffer by hand (see Slots above; now the card lacks the name), or a reset.
  *
  * Write once makes set and remove answer 7 while the card has the record. It protects neither from a reset nor from whoever can write or exchange the
  * card: on a blank card (all zero) the name is free again, and any set that finds room answers 0. Only if the chip has the name, that is for a record with
@@ -113,16 +138,16 @@
 
 /* Version of header and library. */
 #define SECURESTORE_VERSION_MAJOR 0
-#define SECURESTORE_VERSION_MINOR 6
+#define SECURESTORE_VERSION_MINOR 7
 #define SECURESTORE_VERSION_PATCH 0
-#define SECURESTORE_VERSION_STRING "0.6.0"
+#define SECURESTORE_VERSION_STRING "0.7.0"
 
 /* What the store's calls return: one of these numbers. */
 typedef uint32_t securestore_status;
 
 #define SECURESTORE_OK 0u
 #define SECURESTORE_ERR_LENGTH 1u         /* card, chip, device key, IV, name, key, staging or mix buffer, or an array of sends, of a wrong length */
-#define SECURESTORE_ERR_CORRUPT 2u        /* card or chip is damaged: one bad slot is enough; a reset recovers, or a zeroed card */
+#define SECURESTORE_ERR_CORRUPT 2u        /* card or chip is damaged: one bad slot, or slots out of order (see Slots); see there before any reset */
 #define SECURESTORE_ERR_INVALID_NAME 3u   /* bad name, prefix or key identifier; or a mix is to be stored under a name without "mix/" in front */
 #define SECURESTORE_ERR_INVALID_FLAGS 4u  /* unknown bits, or replay protection without integrity */
 #define SECURESTORE_ERR_DATA_SIZE 5u      /* more data than a record holds, given or declared */
@@ -230,8 +255,9 @@ static inline const char *securestore_status_text(securestore_status status)
     }
 }
 
-/* Stores data under a name: a new name takes the lowest free slot, a known one keeps its own. With replay protection the record's CMAC goes to the
- * chip too, so both buffers must reach their media. iv must be new for every set with confidentiality under one device key.
+/* Stores data under a name: the slot of a new name is put where the order of names has it, that of a known one is written anew where it stands. With replay
+ * protection the record's CMAC goes to the chip too, so both buffers must reach their media. iv must be new for every set with confidentiality under one
+ * device key.
  * Tests: 1 lengths (card, chip, key of 16, IV of 8), 2 damage, 3 name, 4 flags, 5 data over 480;
  * where the card holds the name: 8, then 7 if the old or the new flags say write once, then 9;
  * where it does not: 7 if the new flags say write once and the chip holds the name;
@@ -254,17 +280,22 @@ securestore_status securestore_get(const uint8_t *kv, size_t kv_len, const uint8
 securestore_status securestore_get_info(const uint8_t *kv, size_t kv_len, const uint8_t *rbp, size_t rbp_len, const uint8_t *device_key,
                                         size_t device_key_len, const uint8_t *name, size_t name_len, uint32_t *data_size, uint32_t *flags);
 
-/* Clears the name's slot on the card, and with replay protection the one in the chip. If the card's record is without it, a chip slot of the name is kept,
- * and get then answers 12. No CMAC is checked: to remove a record that says replay protection frees the name in the chip, whoever put the record there.
+/* Takes the name's slot out of the card, and with replay protection the one out of the chip; the slots behind close up. If the card's record is without it, a
+ * chip slot of the name is kept, and get then answers 12. No CMAC is checked: to remove a record that says replay protection frees the name in the chip,
+ * whoever put the record there.
  * Tests: 1 lengths, 2 damage, 3 name, 6 not on the card, 8, 7 if the record is written once. */
 securestore_status securestore_remove(uint8_t *kv, size_t kv_len, uint8_t *rbp, size_t rbp_len, const uint8_t *name, size_t name_len);
 
 /* Clears card and chip, whatever they hold. Tests: 1 lengths, and nothing else. */
 securestore_status securestore_reset(uint8_t *kv, size_t kv_len, uint8_t *rbp, size_t rbp_len);
 
-/* The first name with the prefix from a slot on, for walking over names: start with start_slot 0 and go on with *next_slot while the answer is 0; 6 is
- * the end, any other number an error (after which *next_slot is 0).
+/* The first name with the prefix from a slot on, for walking over names, which come in their order: start with start_slot 0 and go on with *next_slot while
+ * the answer is 0; 6 is the end, any other number an error (after which *next_slot is 0).
  * The name goes to the front of name_buf, the rest of it is as before; *name_len is its length, *next_slot the slot after it.
+ * Slots are counted, not names, whatever the prefix. Between two steps a set of a name that the card holds does no harm, nor do a new name and a remove behind
+ * the name that was given last. A new name in front of that, or that name itself set again after a remove, moves the next one on, so a name would be given
+ * again: go on with one more for each. A remove of it, or of a name in front of it, moves the next one back, so that would be left out: go on with one less for
+ * each. Only calls that answered 0 count, those of save_key, store_mix and set_finalize too. Or start again with 0, which is always right.
  * Tests: 1 lengths (name_buf of at least 64), 2 damage, 3 prefix (0 to 64 bytes that a name may hold), 6. No record is judged. */
 securestore_status securestore_iterator_next(const uint8_t *kv, size_t kv_len, const uint8_t *rbp, size_t rbp_len, const uint8_t *prefix,
                                              size_t prefix_len, size_t start_slot, uint8_t *name_buf, size_t name_buf_len, size_t *name_len,

@@ -76,7 +76,7 @@ static uint32_t call_load_key(void)
 }
 
 /* What is changed: the second of two CMACs, the card's, or the chip's. A card's slot has the record's length at 2 and the record from 68 on, with the
- * CMAC at its end; a chip's has the CMAC from 66 on. */
+ * CMAC at its end; a chip's has the CMAC from 66 on. The key's name is all digits, so its slots are the first, and those of mix/1 the second. */
 enum place { SECOND, CARD, CHIP };
 
 static uint8_t *tag_of(enum place place, unsigned slot)
@@ -100,12 +100,12 @@ static const struct group {
     uint32_t refused; /* the answer where the CMACs differ; 0 for the differing bits themselves */
 } GROUPS[] = {{"stops_early", "control", call_stops_early, SECOND, 0, 0},
               {"securestore_tag_difference", "tags", call_difference, SECOND, 0, 0},
-              {"securestore_get", "computed", call_get, CARD, 0, SECURESTORE_ERR_AUTHENTICATION},
-              {"securestore_get", "chip", call_get, CHIP, 0, SECURESTORE_ERR_ROLLBACK},
-              {"securestore_get_info", "computed", call_get_info, CARD, 0, SECURESTORE_ERR_AUTHENTICATION},
-              {"securestore_get_info", "chip", call_get_info, CHIP, 0, SECURESTORE_ERR_ROLLBACK},
-              {"securestore_load_key", "computed", call_load_key, CARD, 1, SECURESTORE_ERR_AUTHENTICATION},
-              {"securestore_load_key", "chip", call_load_key, CHIP, 1, SECURESTORE_ERR_ROLLBACK}};
+              {"securestore_get", "computed", call_get, CARD, 1, SECURESTORE_ERR_AUTHENTICATION},
+              {"securestore_get", "chip", call_get, CHIP, 1, SECURESTORE_ERR_ROLLBACK},
+              {"securestore_get_info", "computed", call_get_info, CARD, 1, SECURESTORE_ERR_AUTHENTICATION},
+              {"securestore_get_info", "chip", call_get_info, CHIP, 1, SECURESTORE_ERR_ROLLBACK},
+              {"securestore_load_key", "computed", call_load_key, CARD, 0, SECURESTORE_ERR_AUTHENTICATION},
+              {"securestore_load_key", "chip", call_load_key, CHIP, 0, SECURESTORE_ERR_ROLLBACK}};
 
 static void flip(uint8_t *tag, const struct difference *d)
 {

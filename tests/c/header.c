@@ -75,7 +75,7 @@ static void test_version(void)
     char text[64];
     sprintf(text, "%d.%d.%d", SECURESTORE_VERSION_MAJOR, SECURESTORE_VERSION_MINOR, SECURESTORE_VERSION_PATCH);
     expect(strcmp(text, SECURESTORE_VERSION_STRING) == 0, "version: string and numbers agree");
-    expect(strcmp(SECURESTORE_VERSION_STRING, "0.6.0") == 0, "version: 0.6.0");
+    expect(strcmp(SECURESTORE_VERSION_STRING, "0.7.0") == 0, "version: 0.7.0");
 }
 
 static void test_aes(void)
@@ -292,6 +292,7 @@ static void test_typed_names(void)
 {
     static const char *const typed[] = {"Cello 3", "Cello", "Cello ", " Cello", "cello", "Fl\xc3\xb6te", "Fl\xf6te", "Flo\xcc\x88te", "Fl\xc3"};
     enum { TYPED = sizeof typed / sizeof typed[0] };
+    static const char *const ordered[TYPED] = {" Cello", "Cello", "Cello ", "Cello 3", "Flo\xcc\x88te", "Fl\xc3", "Fl\xc3\xb6te", "Fl\xf6te", "cello"};
     uint8_t card[TYPED * SECURESTORE_KV_SLOT_SIZE] = {0}, chip[SECURESTORE_RBP_SLOT_SIZE] = {0}, buf[64], longest[65];
     size_t count, name_len, next_slot;
     unsigned byte, wrong = 0;
@@ -309,6 +310,14 @@ static void test_typed_names(void)
                  || count != 1 || buf[0] != byte;
     }
     expect(wrong == 0, "names: each has its own record");
+    wrong = 0;
+    next_slot = 0;
+    for (byte = 0; byte < TYPED; byte++) {
+        wrong += securestore_iterator_next(card, sizeof card, chip, sizeof chip, NAME, 0, next_slot, buf, sizeof buf, &name_len, &next_slot)
+                     != SECURESTORE_OK
+                 || name_len != strlen(ordered[byte]) || memcmp(buf, ordered[byte], name_len) != 0;
+    }
+    expect(wrong == 0, "names: a walk gives them in order");
     memset(buf, 0, sizeof buf);
     expect(securestore_iterator_next(card, sizeof card, chip, sizeof chip, (const uint8_t *)"Cello ", 6, 1, buf, sizeof buf, &name_len, &next_slot)
                    == SECURESTORE_OK

@@ -469,7 +469,8 @@ static void test_card_as_it_then_is(void)
     expect_status(finalize(), SECURESTORE_ERR_NO_SPACE, "then: the card is full");
     expect_status(remove_named("c"), SECURESTORE_OK, "then: c is removed");
     expect_status(finalize(), SECURESTORE_OK, "then: the same handle, with room");
-    expect(memcmp(now.kv + SECURESTORE_KV_SLOT_SIZE + 4, PLAYER, sizeof PLAYER) == 0, "then: it takes the lowest free slot");
+    expect(now.kv[4] == 'b' && now.kv[SECURESTORE_KV_SLOT_SIZE + 4] == 'd' && memcmp(now.kv + 2 * SECURESTORE_KV_SLOT_SIZE + 4, PLAYER, sizeof PLAYER) == 0,
+           "then: it takes its place in the order");
 }
 
 /* Over a slot of the chip that is left over: the card lacks the name, or someone put a record on it that has these flags. */

@@ -1,6 +1,6 @@
 /* Holds what securestore.h says about media against the library: records that ask for less protection than the chip has, power lost between the two
- * writes, chip slots left over, write once under another card, erased flash. A statement there that is false fails here. Compiled as C99 and as C++.
- * The last line is 'N passed, M failed'. */
+ * writes or in one of them, chip slots left over, write once under another card, erased flash. A statement there that is false fails here. Compiled as C99
+ * and as C++. The last line is 'N passed, M failed'. */
 #include <stdint.h>
 #include <string.h>
 
@@ -8,6 +8,7 @@
 static uint32_t stored_flags, tried_flags;
 #define EXPECT_DETAIL() printf("  stored with flags %u, tried with %u\n", (unsigned)stored_flags, (unsigned)tried_flags)
 #include "expect.h"
+#include "slots.h"
 
 #define SLOTS 3u
 #define PROTECTED (SECURESTORE_REQUIRE_INTEGRITY | SECURESTORE_REQUIRE_REPLAY_PROTECTION)
@@ -130,24 +131,15 @@ static securestore_status find(const char *name)
 /* Whether the chip's buffer has the name, by the layout that the header gives. */
 static int chip_has(const char *name)
 {
-    size_t i;
-    for (i = 0; i < SLOTS; i++) {
-        const uint8_t *slot = now.rbp + i * SECURESTORE_RBP_SLOT_SIZE;
-        if (slot[0] == 1 && slot[1] == strlen(name) && memcmp(slot + 2, name, strlen(name)) == 0) {
-            return 1;
-        }
-    }
-    return 0;
+    return slot_of(&IN_CHIP, now.rbp, sizeof now.rbp, name) < sizeof now.rbp;
 }
 
-/* The card's slot of the name in question, the only name of one byte; the last slot if the card has not the name. */
+/* The card's slot of the name in question, or one that is on no card, so that a wrong library is told and harms nothing here. */
 static uint8_t *card_slot(void)
 {
-    size_t i = 0;
-    while (i < SLOTS - 1 && memcmp(now.kv + i * SECURESTORE_KV_SLOT_SIZE, "\1\1", 2) != 0) {
-        i++;
-    }
-    return now.kv + i * SECURESTORE_KV_SLOT_SIZE;
+    static uint8_t nowhere[SECURESTORE_KV_SLOT_SIZE];
+    const size_t at = slot_of(&ON_CARD, now.kv, sizeof now.kv, "a");
+    return at < sizeof now.kv ? now.kv + at : nowhere;
 }
 
 static int card_is(const struct media *want)
@@ -377,6 +369,104 @@ static void test_power_write_once(void)
     }
 }
 
+/* What a write of 'made' over 'old' leaves that ends after some slots, from the front or from the back. */
+static void cut_write(uint8_t *area, const uint8_t *old, const uint8_t *made, size_t size, size_t written, int from_back)
+{
+    size_t i;
+    for (i = 0; i < SLOTS; i++) {
+        const size_t when = from_back ? SLOTS - 1 - i : i;
+        memcpy(area + i * size, (when < written ? made : old) + i * size, size);
+    }
+}
+
+/* How many of the other names a get answers with this number. */
+static size_t others_answer(securestore_status status)
+{
+    return (size_t)(get_named("other") == status) + (get_named("third") == status);
+}
+
+/* What a write leaves that was cut short between two slots, of a set or remove at the front of two other names: one of them stands twice, 2; or all is in
+ * order and one of them is gone, 12. On the card, then in the chip. */
+static void check_cut_write(const struct media *old, const struct media *made, int is_set)
+{
+    int from_back;
+    size_t written;
+    for (from_back = 0; from_back < 2; from_back++) {
+        for (written = 1; written < SLOTS; written++) {
+            const int in_order = is_set != from_back;
+            now = *made;
+            cut_write(now.kv, old->kv, made->kv, SECURESTORE_KV_SLOT_SIZE, written, from_back);
+            expect(!card_is(old) && !card_is(made), "cut write: neither the old card nor the new");
+            expect(in_order ? others_answer(0) == 1 && others_answer(12) == 1 : others_answer(2) == 2, "cut write: card");
+            now = *made;
+            cut_write(now.rbp, old->rbp, made->rbp, SECURESTORE_RBP_SLOT_SIZE, written, from_back);
+            expect(in_order ? others_answer(0) == 1 && others_answer(12) == 1 : others_answer(2) == 2, "cut write: chip");
+        }
+    }
+}
+
+static void test_power_in_a_write(void)
+{
+    struct media with;
+    begin();
+    expect_status(set_named("third", 12), SECURESTORE_OK, "cut write: another name");
+    before = now;
+    expect_status(set(12), SECURESTORE_OK, "cut write: set");
+    with = now;
+    check_cut_write(&before, &with, 1);
+    now = with;
+    expect_status(remove_it(), SECURESTORE_OK, "cut write: remove");
+    expect(card_is(&before) && chip_is(&before), "cut write: the remove gives what was before the set");
+    check_cut_write(&with, &before, 0);
+}
+
+/* What the get of a name gives: its status, and the three bytes of a record. */
+static securestore_status read_three(const char *name, uint8_t three[3])
+{
+    size_t count = 0;
+    memset(three, 0xee, 3);
+    return securestore_get(now.kv, sizeof now.kv, now.rbp, sizeof now.rbp, KEY, sizeof KEY, (const uint8_t *)name, strlen(name), 0, three, 3, &count);
+}
+
+/* A write of the card that stops at any byte, of a set that is written from front to back: what gets of the names that were only to move answer, and how
+ * often with other data than theirs. */
+static size_t wrong_after_cut(const struct media *old, const struct media *made, uint8_t right[2][3])
+{
+    static const char *const names[] = {"other", "third"};
+    size_t written, i, wrong = 0;
+    for (written = 0; written <= sizeof now.kv; written++) {
+        now = *made;
+        memcpy(now.kv + written, old->kv + written, sizeof now.kv - written);
+        for (i = 0; i < 2; i++) {
+            uint8_t three[3];
+            const securestore_status status = read_three(names[i], three);
+            expect(status == 0 || status == 2 || status == 6 || status == 8 || status == 11 || status == 12, "cut at a byte: 0, 2, 6, 8, 11 or 12");
+            wrong += status == SECURESTORE_OK && memcmp(three, right[i], 3) != 0;
+        }
+    }
+    return wrong;
+}
+
+static void test_power_at_any_byte(void)
+{
+    static const uint32_t flags[] = {0, 4, 12};
+    struct media with;
+    uint8_t right[2][3];
+    size_t i;
+    for (i = 0; i < 3; i++) {
+        now = BLANK;
+        expect_status(set_named("other", flags[i]), SECURESTORE_OK, "cut at a byte: other");
+        expect_status(set_named("third", flags[i]), SECURESTORE_OK, "cut at a byte: third");
+        expect_status(read_three("other", right[0]), SECURESTORE_OK, "cut at a byte: other is read");
+        expect_status(read_three("third", right[1]), SECURESTORE_OK, "cut at a byte: third is read");
+        before = now;
+        expect_status(set(flags[i]), SECURESTORE_OK, "cut at a byte: set");
+        with = now;
+        /* "without replay protection it may answer 0 with another record's data or with zeros", and with it never */
+        expect((wrong_after_cut(&before, &with, right) != 0) == (flags[i] != 12), "cut at a byte: wrong data only without replay protection");
+    }
+}
+
 static securestore_status set_b(uint32_t flags)
 {
     return set_named("b", flags);
@@ -420,7 +510,7 @@ static void check_planted_order(uint32_t stored)
     expect_status(get_from("a", SECURESTORE_DATA_MAX + 1), SECURESTORE_ERR_ROLLBACK, "planted: an offset beyond the data");
 }
 
-/* The chip holds the name, and the card a record that does not ask for it. The ways out: the right card; the card's slot cleared, by a remove or, if that
+/* The chip holds the name, and the card a record that does not ask for it. The ways out: the right card; the card's slot taken out, by a remove or, if that
  * is refused, by hand, and then the chip's. */
 static void check_planted(const struct planted *row, const struct media *right)
 {
@@ -434,8 +524,10 @@ static void check_planted(const struct planted *row, const struct media *right)
     if (row->remove != SECURESTORE_OK) {
         expect(card_is(&then) && chip_is(&then), "planted: a refused remove changes nothing");
         memset(card_slot(), 0, SECURESTORE_KV_SLOT_SIZE);
+        expect_status(get(), SECURESTORE_ERR_CORRUPT, "planted: a slot that is only made all zero leaves a hole");
+        take_out(&ON_CARD, now.kv, sizeof now.kv, 0);
     }
-    expect(card_is(&before) && chip_is(&then), "planted: the card's slot alone is cleared");
+    expect(card_is(&before) && chip_is(&then), "planted: the card's slot alone is taken out");
     check_chip_has_it();
     memcpy(now.kv, right->kv, sizeof now.kv);
     expect_status(get(), SECURESTORE_OK, "planted: with the right card");
@@ -593,7 +685,8 @@ static void test_erased_flash(void)
 
 int main(void)
 {
-    static void (*const tests[])(void) = {test_planted,    test_planted_key, test_not_in_chip, test_power_one_write, test_power, test_power_write_once,
-                                          test_clear_room, test_write_once,  test_erased_flash};
+    static void (*const tests[])(void) = {test_planted,    test_planted_key,      test_not_in_chip,      test_power_one_write,
+                                          test_power,      test_power_write_once, test_power_in_a_write, test_power_at_any_byte,
+                                          test_clear_room, test_write_once,       test_erased_flash};
     return run_tests(tests, COUNT_OF(tests));
 }

@@ -5,6 +5,7 @@
 
 #include "expect.h"
 #include "securestore.h"
+#include "slots.h"
 
 #define SLOTS 5u
 #define CARD (SLOTS * SECURESTORE_KV_SLOT_SIZE)
@@ -548,7 +549,7 @@ static void test_store_is_set(void)
             (void)remove_named(names[next_random() % COUNT_OF(names)]);
             break;
         case 1:
-            memset(now.kv + next_random() % SLOTS * SECURESTORE_KV_SLOT_SIZE, 0, SECURESTORE_KV_SLOT_SIZE);
+            take_out(&ON_CARD, now.kv, CARD, next_random() % SLOTS * SECURESTORE_KV_SLOT_SIZE);
             break;
         case 2:
             blank();
@@ -669,21 +670,28 @@ enum kind { HOLDS, OTHER, NO_MIX, MALFORMED, CHANGED, OLD, NOT_NAMED, FREE, KIND
 static const securestore_status ANSWER[] = {0, 0, 20, 8, 11, 12, 0, 0};
 #define SESSION ((uint64_t)1 << 63 | 4)
 
-static void put_slot(size_t slot, unsigned kind)
+/* The names of mixes are in order, so of two the lower index has the lower slot, whatever the others are. */
+static void put_slot(size_t index, unsigned kind)
 {
-    static const char *const mixes[] = {"mix/c", "mix/", "mix/567890123456789012345678901234567890123456789012345678901234", "mix/a", "mix/b"};
+    static const char *const mixes[] = {"mix/", "mix/567890123456789012345678901234567890123456789012345678901234", "mix/a", "mix/b", "mix/c"};
     static const char *const others[] = {"mix", "Mix/a", "player/1", "0", "/mix/a"};
-    uint8_t *at = now.kv + slot * SECURESTORE_KV_SLOT_SIZE, mix[SECURESTORE_MIX_MAX + 1];
-    size_t len = put_mix(mix, kind == OTHER ? 4 : SESSION, slot);
+    const char *name = kind == NOT_NAMED ? others[index] : mixes[index];
+    uint8_t *at, mix[SECURESTORE_MIX_MAX + 1];
+    size_t len = put_mix(mix, kind == OTHER ? 4 : SESSION, index);
+    if (kind == FREE) {
+        return;
+    }
     if (kind == NO_MIX) {
         mix[len++] = 0;
     }
-    expect_status(set(kind == NOT_NAMED || kind == FREE ? others[slot] : mixes[slot], kind == OLD ? 12 : 4, mix, len), SECURESTORE_OK, "find_mix: a record");
+    expect_status(set(name, kind == OLD ? 12 : 4, mix, len), SECURESTORE_OK, "find_mix: a record");
+    at = now.kv + slot_of(&ON_CARD, now.kv, CARD, name);
     at[68] ^= kind == MALFORMED ? 1 : 0;
     at[68 + 20] ^= kind == CHANGED ? 1 : 0;
 }
 
-/* Every kind in every slot: the lowest bad record decides, whatever stands before or behind it; else how many hold the session. */
+/* Every kind under every name, set in the order of the names or against it: the bad record in the lowest slot decides, whatever stands before or behind it;
+ * else how many hold the session. */
 static void test_find_kinds(void)
 {
     unsigned all, kinds[SLOTS];
@@ -693,10 +701,10 @@ static void test_find_kinds(void)
         securestore_status want = SECURESTORE_OK;
         size_t holders = 0, at = 0;
         unsigned rest = all;
+        const int backwards = next_random() % 2;
         blank();
         for (i = 0; i < SLOTS; i++, rest /= KINDS) {
             kinds[i] = rest % KINDS;
-            put_slot(i, kinds[i]);
             want = want == SECURESTORE_OK ? ANSWER[kinds[i]] : want;
             if (kinds[i] == HOLDS) {
                 holders++;
@@ -704,9 +712,8 @@ static void test_find_kinds(void)
             }
         }
         for (i = 0; i < SLOTS; i++) {
-            if (kinds[i] == FREE) {
-                memset(now.kv + i * SECURESTORE_KV_SLOT_SIZE, 0, SECURESTORE_KV_SLOT_SIZE);
-            }
+            const size_t index = backwards ? SLOTS - 1 - i : i;
+            put_slot(index, kinds[index]);
         }
         memset(now.rbp, 0, CHIP);
         want = want != SECURESTORE_OK ? want : holders > 1 ? SECURESTORE_ERR_AMBIGUOUS : holders == 0 ? SECURESTORE_ERR_NOT_FOUND : SECURESTORE_OK;
@@ -877,7 +884,7 @@ static void test_ways_out(void)
     size_t i, way;
     for (i = 0; i < COUNT_OF(rows); i++) {
         for (way = 0; way < 4; way++) {
-            uint8_t *at = now.kv + SECURESTORE_KV_SLOT_SIZE, kept[SECURESTORE_MIX_MAX];
+            uint8_t *at = now.kv, kept[SECURESTORE_MIX_MAX]; /* mix/bad comes before mix/good */
             size_t kept_len = 0;
             blank();
             expect_status(store("mix/good", 6, good, good_len), SECURESTORE_OK, "ways out: a good mix");
@@ -898,7 +905,7 @@ static void test_ways_out(void)
                 expect_status(store("mix/bad", rows[i].flags, mix, len), rows[i].store, "ways out: store_mix with its flags");
                 break;
             case 2:
-                memset(at, 0, SECURESTORE_KV_SLOT_SIZE);
+                take_out(&ON_CARD, now.kv, CARD, 0);
                 break;
             default:
                 expect_status(securestore_reset(now.kv, CARD, now.rbp, CHIP), SECURESTORE_OK, "ways out: reset");

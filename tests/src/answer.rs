@@ -20,6 +20,9 @@ pub enum Why {
     PansDiffer,
     CardDamaged,
     ChipDamaged,
+    /// Each slot is well shaped, but they aren't in the order of 02, No. 7.
+    CardOrder,
+    ChipOrder,
     BadName,
     BadPrefix,
     BadIdentifier,
@@ -72,7 +75,7 @@ impl Why {
             CardLength | ChipLength | DeviceKeyLength | IvLength | NameBufferLength
             | KeyBufferLength | StagingLength | MixBufferLength | TagsLength | LevelsLength
             | PansLength | LevelsDiffer | PansDiffer => 1,
-            CardDamaged | ChipDamaged => 2,
+            CardDamaged | ChipDamaged | CardOrder | ChipOrder => 2,
             BadName | BadPrefix | BadIdentifier | NameTooLong | NotAMixName => 3,
             BadFlags => 4,
             DataTooLong | DeclaredTooLong => 5,

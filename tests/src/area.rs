@@ -1,4 +1,5 @@
-//! Card and chip, decoded into their places and entries and encoded again.
+//! Card and chip, decoded into their places and entries and encoded again, in the order
+//! of 02, No. 7.
 
 use crate::answer::Why;
 use crate::record::RECORD_MAX;
@@ -95,20 +96,38 @@ fn filled(bytes: &[u8], size: usize) -> Vec<u8> {
     bytes
 }
 
-/// An undamaged card or chip; `None` is a free place or entry.
+/// An undamaged card or chip: the used places or entries at the front, in the order of
+/// their names, and free ones behind them (02, No. 7).
 #[derive(Clone, Debug, PartialEq, Eq)]
 pub struct Area<S> {
-    pub slots: Vec<Option<S>>,
+    used: Vec<S>,
+    /// All of them, the free ones too.
+    slots: usize,
 }
 
 pub type Card = Area<Place>;
 pub type Chip = Area<Entry>;
 
+/// "byte order of their names (a prefix first)": the first byte that differs decides, as a
+/// number from 0 to 255; where none does, the shorter name comes first.
+pub fn in_front(a: &[u8], b: &[u8]) -> bool {
+    match a.iter().zip(b).find(|(x, y)| x != y) {
+        Some((x, y)) => x < y,
+        None => a.len() < b.len(),
+    }
+}
+
 impl<S: Slot> Area<S> {
     pub fn free(slots: usize) -> Self {
-        Area {
-            slots: std::iter::repeat_with(|| None).take(slots).collect(),
-        }
+        let used = Vec::new();
+        Area { used, slots }
+    }
+
+    /// So many slots that hold these, which may come in any order.
+    pub fn holding(slots: usize, used: impl IntoIterator<Item = S>) -> Self {
+        let mut area = Area::free(slots);
+        used.into_iter().for_each(|slot| area.put(slot));
+        area
     }
 
     pub fn right_length(bytes: &[u8]) -> bool {
@@ -117,13 +136,29 @@ impl<S: Slot> Area<S> {
 
     /// The places or entries of bytes of right length, or `None` for damage.
     pub fn decode(bytes: &[u8]) -> Option<Self> {
-        let slots: Option<Vec<Option<S>>> =
-            bytes.chunks_exact(S::SIZE).map(Self::decode_slot).collect();
-        let area = Area { slots: slots? };
-        let mut names: Vec<&[u8]> = area.used().map(|(_, slot)| slot.name()).collect();
-        names.sort_unstable();
-        let alone = names.windows(2).all(|pair| pair[0] != pair[1]);
-        alone.then_some(area)
+        Self::ordered(Self::shaped(bytes)?)
+    }
+
+    /// Each slot by itself, free ones as `None`; nothing where one isn't well shaped.
+    fn shaped(bytes: &[u8]) -> Option<Vec<Option<S>>> {
+        bytes.chunks_exact(S::SIZE).map(Self::decode_slot).collect()
+    }
+
+    /// "any other order is damage": a used slot behind a free one, or behind one whose name
+    /// isn't in front of its own. So no two hold one name.
+    fn ordered(slots: Vec<Option<S>>) -> Option<Self> {
+        let mut area = Self::free(slots.len());
+        for (at, slot) in slots.into_iter().enumerate() {
+            if let Some(slot) = slot {
+                let last = area.used.last();
+                let follows = last.map_or(true, |last| in_front(last.name(), slot.name()));
+                if area.used.len() != at || !follows {
+                    return None;
+                }
+                area.used.push(slot);
+            }
+        }
+        Some(area)
     }
 
     /// Free, used, or (outer `None`) not well shaped. A used slot is the encoding
@@ -137,43 +172,52 @@ impl<S: Slot> Area<S> {
     }
 
     pub fn encode(&self) -> Vec<u8> {
-        self.slots
-            .iter()
-            .flat_map(|slot| slot.as_ref().map_or(vec![0; S::SIZE], S::encode))
-            .collect()
+        let used = self.used.iter().flat_map(S::encode).collect::<Vec<u8>>();
+        filled(&used, self.slots * S::SIZE)
     }
 
+    /// Each with its number, from 0.
     pub fn used(&self) -> impl Iterator<Item = (usize, &S)> {
-        let numbered = self.slots.iter().enumerate();
-        numbered.filter_map(|(at, slot)| slot.as_ref().map(|slot| (at, slot)))
+        self.used.iter().enumerate()
     }
 
     pub fn find(&self, name: &[u8]) -> Option<&S> {
-        self.used()
-            .map(|(_, slot)| slot)
-            .find(|slot| slot.name() == name)
+        self.used.iter().find(|slot| slot.name() == name)
+    }
+
+    pub fn free_slots(&self) -> usize {
+        self.slots - self.used.len()
     }
 
     pub fn has_free(&self) -> bool {
-        self.slots.iter().any(Option::is_none)
+        self.free_slots() > 0
     }
 
-    /// A known name keeps its own; a new one takes the lowest free.
+    /// A known name keeps its own; a new one is put where its name belongs, and those
+    /// behind it move on by one.
     pub fn put(&mut self, slot: S) {
-        let own = self.used().find(|(_, used)| used.name() == slot.name());
-        let own = own.map(|(at, _)| at);
-        let lowest_free = self.slots.iter().position(Option::is_none);
-        let at = own.or(lowest_free).expect("room was tested");
-        self.slots[at] = Some(slot);
-    }
-
-    pub fn take_out(&mut self, name: &[u8]) {
-        for slot in &mut self.slots {
-            if slot.as_ref().map_or(false, |slot| slot.name() == name) {
-                *slot = None;
+        let lower = |used: &&S| in_front(used.name(), slot.name());
+        let at = self.used.iter().filter(lower).count();
+        match self.used.get_mut(at) {
+            Some(own) if own.name() == slot.name() => *own = slot,
+            _ => {
+                assert!(self.has_free(), "room was tested");
+                self.used.insert(at, slot);
             }
         }
     }
+
+    /// Those behind it close up, so that the last one comes free.
+    pub fn take_out(&mut self, name: &[u8]) {
+        self.used.retain(|slot| slot.name() != name);
+    }
+}
+
+/// Slots as they are given, in whatever order; `None` is a free one.
+pub fn laid_out<S: Slot>(slots: &[Option<S>]) -> Vec<u8> {
+    let free = || vec![0; S::SIZE];
+    let bytes = |slot: &Option<S>| slot.as_ref().map_or_else(free, S::encode);
+    slots.iter().flat_map(bytes).collect()
 }
 
 /// Number 1 for card and chip.
@@ -187,10 +231,12 @@ pub fn test_lengths(card: &[u8], chip: &[u8]) -> Result<(), Why> {
     }
 }
 
-/// Number 2; the lengths were tested.
+/// Number 2; the lengths were tested. Whichever slot is wrong by itself is told first.
 pub fn decode(card: &[u8], chip: &[u8]) -> Result<(Card, Chip), Why> {
-    let card = Card::decode(card).ok_or(Why::CardDamaged)?;
-    let chip = Chip::decode(chip).ok_or(Why::ChipDamaged)?;
+    let card = Card::shaped(card).ok_or(Why::CardDamaged)?;
+    let chip = Chip::shaped(chip).ok_or(Why::ChipDamaged)?;
+    let card = Card::ordered(card).ok_or(Why::CardOrder)?;
+    let chip = Chip::ordered(chip).ok_or(Why::ChipOrder)?;
     Ok((card, chip))
 }
 
@@ -256,5 +302,95 @@ mod tests {
         assert!(Card::decode(&twice).is_none());
         let once = [place(b"a", b"1").encode(), place(b"ab", b"1").encode()].concat();
         assert_eq!(Card::decode(&once).unwrap().encode(), once);
+    }
+
+    /// From the lowest to the highest, by hand.
+    const ORDER: [&[u8]; 14] = [
+        b" ",
+        b" ~",
+        b"0",
+        b"A",
+        b"a",
+        b"a ",
+        b"aa",
+        b"ab",
+        b"a\x80",
+        b"b",
+        b"~",
+        b"\x80",
+        b"\x80\xff",
+        b"\xff",
+    ];
+
+    #[test]
+    fn the_order_is_that_of_unsigned_bytes_with_a_prefix_first() {
+        for (at, a) in ORDER.iter().enumerate() {
+            for (other, b) in ORDER.iter().enumerate() {
+                assert_eq!(in_front(a, b), at < other, "{a:?} {b:?}");
+            }
+        }
+        let long = |length: usize, last: u8| [&vec![b'n'; length - 1][..], &[last]].concat();
+        assert!(in_front(&long(64, 0x7e), &long(64, 0x80)));
+        assert!(in_front(&long(63, b'n'), &long(64, b' ')));
+        assert!(in_front(&long(64, 0xff), &long(63, b'o')));
+    }
+
+    #[test]
+    fn any_other_order_is_damage() {
+        let [a, b, c] = [&b"a"[..], b"b", b"c"].map(|name| Some(place(name, b"")));
+        let card = |slots: &[&Option<Place>]| {
+            let slots: Vec<Option<Place>> = slots.iter().map(|slot| (*slot).clone()).collect();
+            Card::decode(&laid_out(&slots))
+        };
+        let none = &None;
+        for sound in [
+            vec![none, none],
+            vec![&b, none],
+            vec![&a, &b, &c],
+            vec![&a, &c, none, none],
+        ] {
+            assert!(card(&sound).is_some());
+        }
+        for damaged in [
+            vec![none, &b],
+            vec![&a, none, &b],
+            vec![&b, &a],
+            vec![&b, &a, none],
+            vec![&a, &c, &b],
+            vec![&c, &b, &a],
+            vec![&a, &b, none, &c],
+            vec![&a, &b, &b],
+        ] {
+            assert!(card(&damaged).is_none());
+        }
+    }
+
+    #[test]
+    fn a_put_moves_the_rest_on_and_a_taking_out_closes_up() {
+        let mut card = Card::free(4);
+        for (name, record) in [(b"b", b"1"), (b"d", b"2"), (b"a", b"3"), (b"c", b"4")] {
+            card.put(place(name, record));
+        }
+        let all = [(b"a", b"3"), (b"b", b"1"), (b"c", b"4"), (b"d", b"2")];
+        let bytes = |used: &[(&[u8; 1], &[u8; 1])], slots: usize| {
+            let used = used.iter();
+            let used = used.flat_map(|(name, record)| place(&name[..], &record[..]).encode());
+            filled(&used.collect::<Vec<u8>>(), slots * PLACE)
+        };
+        assert_eq!(card.encode(), bytes(&all, 4));
+        assert!(!card.has_free());
+        card.put(place(b"b", b"5"));
+        assert_eq!(
+            card.encode(),
+            bytes(&[all[0], (b"b", b"5"), all[2], all[3]], 4)
+        );
+        card.take_out(b"b");
+        assert_eq!(card.encode(), bytes(&[all[0], all[2], all[3]], 4));
+        card.take_out(b"d");
+        card.take_out(b"nowhere");
+        assert_eq!(card.encode(), bytes(&[all[0], all[2]], 4));
+        card.take_out(b"a");
+        assert_eq!(card.encode(), bytes(&[all[2]], 4));
+        assert_eq!(card.free_slots(), 3);
     }
 }

@@ -15,6 +15,11 @@
 //!   on: 6. The place after the last one is a right answer.
 //! - Storing a mix gives 20, then 3 for a name without "mix/" in front, before 1, since
 //!   02 gives the order; the name "mix/" alone is as good as any.
+//! - 02, No. 7: "any other order is damage" is a test of 2 like the others, of the whole
+//!   card and the whole chip, whatever the call is about. A set moves what is in the way of
+//!   a new name only, on card and chip each by itself: a name that the card holds and the
+//!   chip has lost comes into the chip, and the card stays. "The lowest such place" of a
+//!   search is that of the first name, and a walk's place counts the names before it.
 //! - A mix is looked for in the card's records alone: what only the chip holds under
 //!   such a name is no record, and is not tried.
 //! - A mix buffer longer than 153 bytes is right, and so are more than 16 entries for

@@ -167,9 +167,10 @@ fn tell(wrong: &str, card: &[u8], chip: &[u8], call: &Call) -> String {
 }
 
 /// What the cards have to bring: reads that are accepted, and each reason to refuse one.
-const DUE: [Option<Why>; 7] = [
+const DUE: [Option<Why>; 8] = [
     None,
     Some(Why::CardDamaged),
+    Some(Why::CardOrder),
     Some(Why::GoneFromCard),
     Some(Why::NotWellFormed),
     Some(Why::CmacWrong),
@@ -194,7 +195,7 @@ pub fn summary(tally: &Tally, names: usize) -> String {
     let reads = (KINDS.len() * names) as u64;
     format!(
         "{} damaged, {} reads accepted, {} of downgraded records refused",
-        times(Some(Why::CardDamaged)) / reads,
+        (times(Some(Why::CardDamaged)) + times(Some(Why::CardOrder))) / reads,
         times(None),
         times(Some(Why::Downgraded))
     )

@@ -309,9 +309,10 @@ pub fn sound_start(rng: &mut Rng, cast: &Cast, places: usize, entries: usize) ->
     let (mut card, mut chip) = (Card::free(places), Chip::free(entries));
     let fullness = rng.pick(&[0, 30, 60, 90]);
     for name in &cast.names {
-        let at = rng.below(places);
-        if rng.percent(fullness) && card.slots[at].is_none() {
-            card.slots[at] = Some(Place {
+        // The fuller, the less likely.
+        let room = rng.below(places) < card.free_slots();
+        if rng.percent(fullness) && room {
+            card.put(Place {
                 name: name.clone(),
                 record: record(rng, cast, name),
             });
@@ -325,9 +326,9 @@ pub fn sound_start(rng: &mut Rng, cast: &Cast, places: usize, entries: usize) ->
             Some(record) if rng.percent(50) => (20, record.cmac),
             _ => (20, rng.array()),
         };
-        let at = rng.below(entries);
-        if rng.percent(chance) && chip.slots[at].is_none() {
-            chip.slots[at] = Some(Entry {
+        let room = rng.below(entries) < chip.free_slots();
+        if rng.percent(chance) && room {
+            chip.put(Entry {
                 name: name.clone(),
                 cmac,
             });
@@ -350,7 +351,7 @@ pub fn fill(rng: &mut Rng, cast: &Cast, card: &mut Card, chip: &mut Chip) {
     // Where there are mixes at all, a card may be full of them.
     let mixes = !cast.sessions.is_empty() && rng.percent(50);
     let front = if mixes { "mix/filler-" } else { "filler-" };
-    for number in left..card.slots.iter().filter(|slot| slot.is_none()).count() {
+    for number in left..card.free_slots() {
         let name = format!("{front}{number}").into_bytes();
         let record = if mixes {
             filler_mix(rng, cast, &name)
@@ -359,7 +360,7 @@ pub fn fill(rng: &mut Rng, cast: &Cast, card: &mut Card, chip: &mut Chip) {
         };
         card.put(Place { name, record });
     }
-    for number in left..chip.slots.iter().filter(|slot| slot.is_none()).count() {
+    for number in left..chip.free_slots() {
         let name = format!("filler-{number}").into_bytes();
         let cmac = rng.array();
         chip.put(Entry { name, cmac });

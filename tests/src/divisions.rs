@@ -7,7 +7,7 @@
 //! one number and leave one card and chip, byte for byte.
 
 use crate::answer::Answer;
-use crate::area::Card;
+use crate::area::{Card, ENTRY, PLACE};
 use crate::calls::{self, Call};
 use crate::cast::{self, Cast};
 use crate::handle::{Handle, HandleBytes, STAGING};
@@ -256,11 +256,13 @@ impl Division<'_> {
         }
     }
 
-    /// At times a damaged card or chip, or a wrong length.
+    /// At times a damaged card or chip, or one out of order, or a wrong length.
     fn spoil(&mut self) {
         match self.rng.below(40) {
             0 => self.card[583] ^= 0x80,
             1 => self.chip[0] ^= 0x80,
+            5 => self.card.rotate_right(PLACE),
+            6 => self.chip.rotate_right(ENTRY),
             2 => self.card.push(0),
             3 => self.chip.truncate(81),
             4 => self.key = self.rng.bytes(15),

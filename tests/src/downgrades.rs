@@ -156,7 +156,8 @@ struct Scene<'a> {
     tried: usize,
 }
 
-/// The name's record and entry between those of other names and free ones.
+/// The name's record and entry between those of two others, of which one name is a prefix
+/// of it; behind them free ones.
 fn scene<'a>(library: &'a dyn Library, mut rng: Rng, stored: Stored, kept: Kept) -> Scene<'a> {
     let (key, name) = (rng.array(), key_name(IDENTIFIER).expect("good"));
     let file = cast::key_file(&mut rng, true);
@@ -174,18 +175,17 @@ fn scene<'a>(library: &'a dyn Library, mut rng: Rng, stored: Stored, kept: Kept)
         _ => {}
     }
     let other = Record::seal(&key, b"other", flags, &rng.array(), b"data");
-    let mut card = Card::free(4);
-    let mut chip = Chip::free(4);
-    card.slots[2] = Some(place(b"other", other.encode()));
-    chip.slots[0] = Some(entry(b"other", other.cmac));
+    let others = [&b"0"[..], b"other"];
+    let mut card = Card::holding(4, others.map(|name| place(name, other.encode())));
+    let mut chip = Chip::holding(4, others.map(|name| entry(name, other.cmac)));
     if !matches!(stored, Nothing) {
-        card.slots[1] = Some(place(&name, bytes));
+        card.put(place(&name, bytes));
     }
-    chip.slots[2] = match kept {
-        Kept::Nothing => None,
-        Kept::Same => Some(entry(&name, record.cmac)),
-        Kept::Other => Some(entry(&name, rng.array())),
-    };
+    match kept {
+        Kept::Nothing => {}
+        Kept::Same => chip.put(entry(&name, record.cmac)),
+        Kept::Other => chip.put(entry(&name, rng.array())),
+    }
     Scene {
         library,
         rng,
@@ -319,11 +319,13 @@ impl Scene<'_> {
         self.card = card.encode();
     }
 
-    /// Remove clears the card's place and keeps the chip's entry, which then blocks the
-    /// name for all but a set with flag 8. Such a set and its remove free it.
+    /// Remove takes out the card's place, behind which the card closes up, and keeps the
+    /// chip's entry, which then blocks the name for all but a set with flag 8. Such a set
+    /// and its remove free it.
     fn removed(&mut self) -> Result<(), String> {
         let (chip, mut card) = (self.chip.clone(), self.card.clone());
-        card[PLACE..2 * PLACE].fill(0);
+        card.drain(PLACE..2 * PLACE);
+        card.extend([0; PLACE]);
         self.call(&self.remove(), 0)?;
         if self.chip != chip || self.card != card {
             return Err("remove of a downgraded record left another card or chip".into());

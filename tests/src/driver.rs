@@ -14,7 +14,7 @@ use reference::stories;
 use reference::tally::Tally;
 use reference::{
     cards, divisions, downgrades, edges, floats, generator, handles, lists, mixes, names, orders,
-    parsing, tags,
+    parsing, sorted, tags,
 };
 
 use crate::{long, openssl};
@@ -52,6 +52,7 @@ pub fn run(library: &dyn Library, options: &Options) -> Score {
     score.check_all(tags::checks(library, options.seed));
     score.check_all(downgrades::checks(library, options.seed));
     score.check_all(mixes::checks(library));
+    score.check_all(sorted::checks(library));
     score.check_all(floats::checks(library, options.seed));
     match long::check() {
         Some(checked) => score.check("lengths-past-32-bits", checked),
@@ -169,7 +170,7 @@ fn run_lists(library: &dyn Library, options: &Options, score: &mut Score) {
         ))
     });
     let calls = tally.calls();
-    let passed = format!("{} merges, {calls} calls", options.lists);
+    let passed = format!("{} pairs of merges, {calls} calls", options.lists);
     score.check("demand-3", verdict(&mismatches, passed));
 
     println!("answers in the lists:\n{}", tally.table(&lists::KINDS));

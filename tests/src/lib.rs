@@ -43,6 +43,9 @@ pub mod score;
 pub mod script;
 pub mod show;
 pub mod shrink;
+pub mod sorted;
+#[cfg(test)]
+mod sorted_impostors;
 pub mod stories;
 pub mod tags;
 pub mod tally;

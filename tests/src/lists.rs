@@ -6,6 +6,9 @@
 //! each that the chip holds or that is set: the tightest start from which no
 //! merge can meet 10, so no reading of the premise asks for less.
 //!
+//! 02, No. 7: the same two lists are merged twice, and both merges have to end with
+//! equal bytes on card and chip, the library's and the reference's.
+//!
 //! 02, No. 2 "counts the finish as a set": a `set_finalize` gives the name that its
 //! handle tells, and sets it where it is good and its length is one.
 
@@ -23,12 +26,23 @@ use crate::show;
 use crate::shrink::{drop_parts, shorten_area};
 use crate::tally::{Tally, NUMBERS};
 
-/// A merge: each call with the list it comes from.
+/// Two merges of the same two lists.
 #[derive(Clone)]
 pub struct Merge {
     card: Vec<u8>,
     chip: Vec<u8>,
-    calls: Vec<(usize, Call)>,
+    /// In the order of the first merge.
+    calls: Vec<Step>,
+}
+
+/// A call of one of the lists.
+#[derive(Clone)]
+struct Step {
+    side: usize,
+    call: Call,
+    /// Where it stands in the second merge. What is left keeps its order there when
+    /// others are dropped.
+    second: usize,
 }
 
 /// The calls that the lists hold.
@@ -55,11 +69,11 @@ pub fn merge(mut rng: Rng) -> Merge {
     // Each list is made along its own book, so that its calls suit it.
     let start = Book::of(&card, &chip);
     let lists = sides.map(|names| list(&mut rng, &cast, &names, start.clone()));
-    let calls = shuffle(&mut rng, lists);
+    let calls = merged_twice(&mut rng, lists);
     let set: BTreeSet<Vec<u8>> = calls
         .iter()
-        .filter(|(_, call)| sets(call))
-        .map(|(_, call)| name_of(call))
+        .filter(|step| sets(&step.call))
+        .map(|step| name_of(&step.call))
         .collect();
     Merge {
         card: with_room(&mut rng, card, &set).encode(),
@@ -167,37 +181,105 @@ fn finalize(rng: &mut Rng, key: Vec<u8>, held: (Handle, Vec<u8>)) -> Call {
     }
 }
 
-fn shuffle(rng: &mut Rng, lists: [Vec<Call>; 2]) -> Vec<(usize, Call)> {
-    let mut lists = lists.map(std::collections::VecDeque::from);
-    let mut calls = Vec::new();
-    while let Some(side) = match [lists[0].is_empty(), lists[1].is_empty()] {
-        [true, true] => None,
-        [false, true] => Some(0),
-        [true, false] => Some(1),
-        [false, false] => Some(rng.below(2)),
-    } {
-        calls.extend(lists[side].pop_front().map(|call| (side, call)));
+fn merged_twice(rng: &mut Rng, lists: [Vec<Call>; 2]) -> Vec<Step> {
+    let lengths = [lists[0].len(), lists[1].len()];
+    let (first, second) = (shuffle(rng, lengths), shuffle(rng, lengths));
+    // Each list's own calls, in turn, in the second merge.
+    let place = |side: usize| {
+        second
+            .iter()
+            .enumerate()
+            .filter(move |(_, of)| **of == side)
+    };
+    let mut places = [place(0), place(1)].map(|of| of.map(|(at, _)| at));
+    let mut lists = lists.map(Vec::into_iter);
+    let mut step = |side: usize| Step {
+        side,
+        call: lists[side].next().expect("as many"),
+        second: places[side].next().expect("as many"),
+    };
+    first.into_iter().map(&mut step).collect()
+}
+
+/// From which list each call of a merge comes. At times one list comes whole before the
+/// other, so that all of its names arrive first.
+fn shuffle(rng: &mut Rng, mut left: [usize; 2]) -> Vec<usize> {
+    let whole = rng.percent(20).then(|| rng.below(2));
+    let mut sides = Vec::new();
+    while left != [0, 0] {
+        let side = match (left, whole) {
+            ([_, 0], _) => 0,
+            ([0, _], _) => 1,
+            (_, Some(side)) => side,
+            _ => rng.below(2),
+        };
+        left[side] -= 1;
+        sides.push(side);
     }
-    calls
+    sides
 }
 
 /// The same slots among as few as the premise allows, at times a few more.
 fn with_room<S: Slot + Clone>(rng: &mut Rng, area: Area<S>, set: &BTreeSet<Vec<u8>>) -> Area<S> {
     let held: BTreeSet<Vec<u8>> = area.used().map(|(_, slot)| slot.name().to_vec()).collect();
     let room = held.union(set).count() + rng.pick(&[0, 0, 0, 1, 3]);
-    let mut roomy = Area::free(room.max(1));
-    for (_, slot) in area.used() {
-        let mut at = rng.below(roomy.slots.len());
-        while roomy.slots[at].is_some() {
-            at = (at + 1) % roomy.slots.len();
-        }
-        roomy.slots[at] = Some(slot.clone());
-    }
-    roomy
+    Area::holding(room.max(1), area.used().map(|(_, slot)| slot.clone()))
 }
 
-/// What differs first, if anything does.
+/// What differs first, if anything does: in the first merge from the lists' books, then in
+/// the second, then between what the two leave.
 pub fn check(merge: &Merge, library: &dyn Library, tally: &mut Tally) -> Option<String> {
+    let [first, second] = merge.orders();
+    let ends = run(merge, &first, library, tally).and_then(|end| {
+        let other = run(merge, &second, library, tally);
+        let other = other.map_err(|why| format!("merged otherwise, {why}"));
+        Ok([end, other?])
+    });
+    match ends {
+        Err(why) => Some(why),
+        Ok([end, other]) => same_ends("two merges", &end, &other).or_else(|| {
+            let [first, second] = [&first, &second].map(|calls| merge.reference(calls));
+            same_ends("the reference and the library", &first, &end)
+                .or_else(|| same_ends("two merges of the reference", &first, &second))
+        }),
+    }
+}
+
+type End = (Vec<u8>, Vec<u8>);
+
+fn same_ends(whose: &str, one: &End, other: &End) -> Option<String> {
+    let card = show::first_difference("the final card", &one.0, &other.0);
+    let chip = || show::first_difference("the final chip", &one.1, &other.1);
+    let different = card.or_else(chip)?;
+    Some(format!("of {whose} {different}"))
+}
+
+impl Merge {
+    /// The calls in the order of each merge.
+    fn orders(&self) -> [Vec<&Step>; 2] {
+        let first: Vec<&Step> = self.calls.iter().collect();
+        let mut second = first.clone();
+        second.sort_by_key(|step| step.second);
+        [first, second]
+    }
+
+    /// Card and chip as the reference leaves them.
+    fn reference(&self, calls: &[&Step]) -> End {
+        let start = (self.card.clone(), self.chip.clone());
+        calls.iter().fold(start, |(card, chip), step| {
+            let answer = calls::answer(&card, &chip, &step.call).0;
+            (answer.card, answer.chip)
+        })
+    }
+}
+
+/// Card and chip after these calls, which answer as the lists' books do.
+fn run(
+    merge: &Merge,
+    calls: &[&Step],
+    library: &dyn Library,
+    tally: &mut Tally,
+) -> Result<End, String> {
     let (mut card, mut chip) = (merge.card.clone(), merge.chip.clone());
     // A damaged start would compare nothing, so it may not pass for sameness.
     let start = Book::of(
@@ -205,7 +287,7 @@ pub fn check(merge: &Merge, library: &dyn Library, tally: &mut Tally) -> Option<
         &Chip::decode(&chip).expect("a sound start"),
     );
     let mut books = [start.clone(), start.clone()];
-    for (step, (side, call)) in merge.calls.iter().enumerate() {
+    for (step, Step { side, call, .. }) in calls.iter().enumerate() {
         let expected = books[*side].step(call);
         let (_, why) = calls::answer(&card, &chip, call);
         let got = library.call(&card, &chip, call);
@@ -216,10 +298,10 @@ pub fn check(merge: &Merge, library: &dyn Library, tally: &mut Tally) -> Option<
             output: got.answer.output,
         };
         if let Some(stray) = got.strays.first() {
-            return Some(format!("step {step}: {stray}"));
+            return Err(format!("step {step}: {stray}"));
         }
         if told != expected {
-            return Some(format!(
+            return Err(format!(
                 "step {step}: the book says {} {:?} output {}\n    got {} {:?} output {}",
                 expected.number,
                 expected.returned,
@@ -231,7 +313,10 @@ pub fn check(merge: &Merge, library: &dyn Library, tally: &mut Tally) -> Option<
         }
         (card, chip) = (got.answer.card, got.answer.chip);
     }
-    final_contents(merge, &start, &books, &card, &chip)
+    match final_contents(merge, &start, &books, &card, &chip) {
+        Some(different) => Err(different),
+        None => Ok((card, chip)),
+    }
 }
 
 /// In the end each name has the contents of its own list's book.
@@ -247,7 +332,7 @@ fn final_contents(
         _ => return Some("the final card or chip is damaged".into()),
     };
     let end = Book::of(&card, &chip);
-    let called = merge.calls.iter().map(|(_, call)| name_of(call));
+    let called = merge.calls.iter().map(|step| name_of(&step.call));
     let names: BTreeSet<Vec<u8>> = called
         .chain(start.names().chain(end.names()).cloned())
         .collect();
@@ -255,8 +340,8 @@ fn final_contents(
         let mut owner = merge
             .calls
             .iter()
-            .filter(|(_, call)| name_of(call) == *name);
-        let book = owner.next().map_or(start, |(side, _)| &books[*side]);
+            .filter(|step| name_of(&step.call) == *name);
+        let book = owner.next().map_or(start, |step| &books[step.side]);
         let (expected, got) = (book.contents(name), end.contents(name));
         (expected != got).then(|| {
             format!(
@@ -281,7 +366,7 @@ fn contents(contents: &Contents) -> String {
 /// The shortest merge found that still differs, told.
 pub fn report(merge: &Merge, library: &dyn Library) -> String {
     let differs = |merge: &Merge| check(merge, library, &mut Tally::default()).is_some();
-    let with = |calls: &[(usize, Call)]| Merge {
+    let with = |calls: &[Step]| Merge {
         calls: calls.to_vec(),
         ..merge.clone()
     };
@@ -308,9 +393,16 @@ pub fn report(merge: &Merge, library: &dyn Library) -> String {
         show::buffer(&short.card),
         show::buffer(&short.chip)
     );
-    for (side, call) in &short.calls {
+    for Step { side, call, .. } in &short.calls {
         text += &format!("  list {}: {}\n", ["A", "B"][*side], show::call(call));
     }
+    let [_, second] = short.orders();
+    let place = |step: &&Step| {
+        let own = short.calls.iter().position(|of| of.second == step.second);
+        own.expect("one of them").to_string()
+    };
+    let places: Vec<String> = second.iter().map(place).collect();
+    text += &format!("  merged otherwise: steps {}\n", places.join(" "));
     let difference = check(&short, library, &mut Tally::default());
     text + "  " + &difference.expect("it still differs") + "\n"
 }
@@ -363,10 +455,49 @@ mod tests {
         for index in 0..1500 {
             let merge = merge(Rng::part(4, index));
             let names = |of: usize| -> BTreeSet<Vec<u8>> {
-                let calls = merge.calls.iter().filter(|(side, _)| *side == of);
-                calls.map(|(_, call)| name_of(call)).collect()
+                let calls = merge.calls.iter().filter(|step| step.side == of);
+                calls.map(|step| name_of(&step.call)).collect()
             };
             assert!(names(0).is_disjoint(&names(1)), "{index}");
+        }
+    }
+
+    #[test]
+    fn two_merges_have_the_same_lists_and_mostly_another_order() {
+        let mut others = 0;
+        for index in 0..1500 {
+            let merge = merge(Rng::part(4, index));
+            let [first, second] = merge.orders();
+            for side in [0, 1] {
+                // Where a call stands in the second merge tells it from all others.
+                let list = |calls: &[&Step]| -> Vec<usize> {
+                    let own = calls.iter().filter(|step| step.side == side);
+                    own.map(|step| step.second).collect()
+                };
+                assert_eq!(list(&first), list(&second), "{index}");
+            }
+            let sides = |calls: &[&Step]| calls.iter().map(|step| step.side).collect::<Vec<_>>();
+            others += usize::from(sides(&first) != sides(&second));
+        }
+        assert!(others > 1000, "{others}");
+    }
+
+    #[test]
+    fn other_bytes_in_the_end_are_told() {
+        let end = (vec![0; PLACE], vec![0; ENTRY]);
+        assert_eq!(same_ends("two merges", &end, &end), None);
+        let (mut card, mut chip) = (end.clone(), end.clone());
+        card.0[PLACE - 1] = 1;
+        chip.1[ENTRY - 1] = 1;
+        for (other, what) in [
+            (card, "card differs first at byte 583"),
+            (chip, "chip differs first at byte 81"),
+        ] {
+            let told = same_ends("two merges", &end, &other).expect("told");
+            assert!(
+                told.starts_with(&format!("of two merges the final {what}")),
+                "{told}"
+            );
         }
     }
 

@@ -452,13 +452,15 @@ fn decides(held: Held) -> Option<u32> {
     }
 }
 
-/// Makes the place at this index hold it; the chip has its entries in the other order.
+/// Puts it on the card, and on the chip what belongs to it. The numbers in the names are in
+/// the order of the places; names that aren't tried stand before or behind all others.
 fn put(card: &mut Card, chip: &mut Chip, at: usize, held: Held, flags: u32) {
     let front = match held {
-        OtherName | OtherBytes => "mux/",
+        OtherName => "mux/",
+        OtherBytes => "max/",
         _ => "mix/",
     };
-    let name = format!("{front}{at}").into_bytes();
+    let name = format!("{front}{at:02}").into_bytes();
     let session = if held == OtherSession {
         !SESSION
     } else {
@@ -488,13 +490,12 @@ fn put(card: &mut Card, chip: &mut Chip, at: usize, held: Held, flags: u32) {
         cmac[15] ^= 1;
     }
     let kept = flags.replay_protection() && held != Unkept || held == Downgraded;
-    let last = chip.slots.len() - 1;
-    chip.slots[last - at] = kept.then(|| Entry {
-        name: name.clone(),
-        cmac,
-    });
+    if kept {
+        let name = name.clone();
+        chip.put(Entry { name, cmac });
+    }
     let record = stored;
-    card.slots[at] = Some(Place { name, record });
+    card.put(Place { name, record });
 }
 
 fn search(trials: &mut Trials, scene: &[Held], flags: u32) -> Tried {

@@ -411,6 +411,20 @@ fn stories() -> Vec<Edge> {
             "0\t\n0\t\n10\t\n0\t41\n0\t42\n0\t\n0\t\n0\t43\n",
         ),
         edge(
+            "names that do not arrive in their order",
+            {
+                let [low, high] = ["\u{80}", "\u{ff}"];
+                let night = format!(
+                    "{KEY}\t3\nset\t{high}\t12\t{IV}\t41\nset\t~\t0\t{IV}\t42\nset\t{low}\t12\t{IV}\t43\n\
+                     get\t{high}\nget\t~\nget\t{low}\nset\ta\t0\t{IV}\t\nremove\t~\nget\t{low}\nget\t{high}\n\
+                     set\ta\t14\t{IV}\t44\nget\ta\nget\t{high}\nremove\ta\nremove\t{high}\nget\t{low}\n"
+                );
+                // Each letter is one byte.
+                night.chars().map(|letter| letter as u8).collect::<Vec<u8>>()
+            },
+            "0\t\n0\t\n0\t\n0\t41\n0\t42\n0\t43\n10\t\n0\t\n0\t43\n0\t41\n0\t\n0\t44\n0\t41\n0\t\n0\t\n0\t43\n",
+        ),
+        edge(
             "64 places are full",
             {
                 let lines = (0..65).map(|at| format!("set\t{at}\t12\t{IV}\t\n"));

@@ -2,7 +2,7 @@
 //! faults that a call can have at once must give the number of the first in the
 //! order, so each test wins over each one behind it.
 
-use crate::area::{Card, Chip, Entry, Place, ENTRY, PLACE};
+use crate::area::{Area, Card, Chip, Entry, Place, Slot, ENTRY, PLACE};
 use crate::calls::Call;
 use crate::ciphers::Checked;
 use crate::handle::{Handle, STAGING};
@@ -54,8 +54,8 @@ fn seal(flags: u32, name: &[u8], data: &[u8]) -> (Place, Entry) {
     (place, entry)
 }
 
-/// Three places and three entries: the known name, a free one, another name. A search
-/// for a mix has a second one in the middle, of another session.
+/// Three places and three entries: the known name, another name, a free one. A search
+/// for a mix has a second one in the middle, of another session, and no free one.
 fn scene(call: Call) -> Scene {
     let name = known(&call);
     let content = if name == MIX_NAME {
@@ -64,21 +64,14 @@ fn scene(call: Call) -> Scene {
         let file = KeyFile::new(ATTRIBUTES, b"key").expect("short material");
         file.encode()
     };
-    let (middle, middle_entry) = match call {
-        Call::FindMix { .. } => {
-            let (place, entry) = seal(FLAGS, b"mix/second", &mix(!SESSION));
-            (Some(place), Some(entry))
-        }
-        _ => (None, None),
-    };
-    let (known, entry) = seal(FLAGS, name, &content);
-    let (other, other_entry) = seal(FLAGS, b"other", b"data");
-    let card = Card {
-        slots: vec![Some(known), middle, Some(other)],
-    };
-    let chip = Chip {
-        slots: vec![Some(entry), middle_entry, Some(other_entry)],
-    };
+    let second = matches!(call, Call::FindMix { .. });
+    let second = second.then(|| seal(FLAGS, b"mix/second", &mix(!SESSION)));
+    let (known, other) = (seal(FLAGS, name, &content), seal(FLAGS, b"other", b"data"));
+    let (mut card, mut chip) = (Card::free(3), Chip::free(3));
+    for (place, entry) in [known, other].into_iter().chain(second) {
+        card.put(place);
+        chip.put(entry);
+    }
     Scene {
         card: card.encode(),
         chip: chip.encode(),
@@ -133,9 +126,13 @@ const BUFFER_LENGTH: Fault = (1, |scene| match &mut scene.call {
     }
     _ => unreachable!("lent no such buffer"),
 });
-// The other name's slots are damaged, so that the known one is still found.
+// The last slots are damaged, so that the known name is still found.
 const CARD_DAMAGED: Fault = (2, |scene| scene.card[3 * PLACE - 1] = 1);
 const CHIP_DAMAGED: Fault = (2, |scene| scene.chip[2 * ENTRY] = 2);
+// Each slot is as before, and stands where another stood. Of two used ones the higher comes
+// first; of one used and one free, the free one.
+const CARD_ORDER: Fault = (2, |scene| scene.card[..2 * PLACE].rotate_left(PLACE));
+const CHIP_ORDER: Fault = (2, |scene| scene.chip[..2 * ENTRY].rotate_left(ENTRY));
 const BAD_NAME: Fault = (3, |scene| match &mut scene.call {
     Call::Set { name, .. }
     | Call::Get { name, .. }
@@ -197,13 +194,16 @@ const NO_PLACE: Fault = (10, |scene| {
 const NO_ENTRY: Fault = (10, |scene| put_entry(scene, b"third".to_vec()));
 /// A known name can need an entry too: the chip has lost it and is full.
 const ENTRY_LOST: Fault = (10, |scene| {
-    scene.chip[..ENTRY].fill(0);
+    let name = known(&scene.call);
+    take_out::<Entry>(&mut scene.chip, name);
     put_entry(scene, b"third".to_vec());
     put_entry(scene, b"fourth".to_vec());
 });
 const CMAC_WRONG: Fault = (11, |scene| scene.card[68 + 20] ^= 1);
 const ENTRY_DIFFERS: Fault = (12, |scene| scene.chip[ENTRY - 1] ^= 1);
-const ENTRY_ABSENT: Fault = (12, |scene| scene.chip[..ENTRY].fill(0));
+const ENTRY_ABSENT: Fault = (12, |scene| {
+    take_out::<Entry>(&mut scene.chip, known(&scene.call));
+});
 /// The record is one without flag 8, as authentic as before, and the chip keeps its entry.
 const DOWNGRADED: Fault = (12, disown::<6>);
 /// And one without integrity, which has no CMAC to be wrong.
@@ -216,12 +216,17 @@ const DOWNGRADED_BY_NEW: Fault = (12, |scene| {
     change_flags(&mut scene.call, |_| 6);
     put_entry(scene, new_name(&scene.call));
 });
-const GONE_FROM_CARD: Fault = (12, |scene| scene.card[..PLACE].fill(0));
-const NOT_FOUND: Fault = (6, |scene| {
-    scene.card[..PLACE].fill(0);
-    scene.chip[..ENTRY].fill(0);
+const GONE_FROM_CARD: Fault = (12, |scene| {
+    take_out::<Place>(&mut scene.card, known(&scene.call));
 });
-const NOT_ON_CARD: Fault = (6, |scene| scene.card[..PLACE].fill(0));
+const NOT_FOUND: Fault = (6, |scene| {
+    let name = known(&scene.call);
+    take_out::<Place>(&mut scene.card, name);
+    take_out::<Entry>(&mut scene.chip, name);
+});
+const NOT_ON_CARD: Fault = (6, |scene| {
+    take_out::<Place>(&mut scene.card, known(&scene.call));
+});
 const START_BEYOND: Fault = (6, |scene| {
     if let Call::Walk { start, .. } = &mut scene.call {
         *start = 3;
@@ -357,6 +362,12 @@ fn put_entry(scene: &mut Scene, name: Vec<u8>) {
     let cmac = [7; 16];
     chip.put(Entry { name, cmac });
     scene.chip = chip.encode();
+}
+
+fn take_out<S: Slot>(bytes: &mut Vec<u8>, name: &[u8]) {
+    let mut area = Area::<S>::decode(bytes).expect("sound so far");
+    area.take_out(name);
+    *bytes = area.encode();
 }
 
 /// Tries every set of the faults. They are made last first, so that those of the
@@ -742,6 +753,79 @@ fn float_orders() -> Vec<Order> {
     ]
 }
 
+/// 02, No. 7: an order that isn't that of the names is told where other damage is told. What
+/// stands further before and behind is tried above.
+fn disorder_orders() -> Vec<Order> {
+    let disorder = &[CARD_ORDER, CHIP_ORDER];
+    let areas = line(&[LENGTHS, disorder]);
+    let named = line(&[&areas, &[BAD_NAME]]);
+    let sets = line(&[&[IV_LENGTH, KEY_LENGTH], &named, &[BAD_FLAGS]]);
+    let known = line(&[&sets, &[REVISION, ENTRY_LOST]]);
+    let keyed = line(&[&[KEY_LENGTH], &named]);
+    let read = line(&[&keyed, &[REVISION, CMAC_WRONG]]);
+    let finalize = |faults: &[Fault]| {
+        let before = &[KEY_LENGTH, STAGING_LENGTH, DATA_MISSING];
+        line(&[LENGTHS, before, disorder, &[BAD_NAME], faults])
+    };
+    vec![
+        ("set-known-disordered", set(NAME), known),
+        ("set-new-disordered", set(b"new"), line(&[&sets, FULL])),
+        ("get-disordered", get(), read.clone()),
+        (
+            "get-absent-disordered",
+            get(),
+            line(&[&keyed, &[NOT_FOUND]]),
+        ),
+        ("info-disordered", info(), read.clone()),
+        ("remove-disordered", remove(), line(&[&named, &[REVISION]])),
+        (
+            "remove-absent-disordered",
+            remove(),
+            line(&[&named, &[NOT_ON_CARD]]),
+        ),
+        (
+            "walk-disordered",
+            walk(),
+            line(&[&[BUFFER_LENGTH], &named, &[START_BEYOND]]),
+        ),
+        (
+            "keep-disordered",
+            keep(1),
+            line(&[&[MATERIAL_TOO_LONG], &sets, FULL]),
+        ),
+        (
+            "load-disordered",
+            load(),
+            line(&[&[BUFFER_LENGTH], &read, &[NOT_A_KEY_FILE]]),
+        ),
+        (
+            "set_finalize-known-disordered",
+            set_finalize(NAME),
+            finalize(&[REVISION]),
+        ),
+        (
+            "set_finalize-new-disordered",
+            set_finalize(b"new"),
+            finalize(FULL),
+        ),
+        (
+            "store_mix-disordered",
+            store_mix(b"mix/new"),
+            line(&[&[MIX_BYTES, NOT_A_MIX_NAME], &sets, FULL]),
+        ),
+        (
+            "find_mix-disordered",
+            find_mix(),
+            line(&[
+                &[KEY_LENGTH, BUFFER_LENGTH],
+                &areas,
+                READ,
+                &[HOLDS_NO_MIX, BOTH_HOLD_IT],
+            ]),
+        ),
+    ]
+}
+
 fn orders() -> Vec<Order> {
     [
         get_orders(),
@@ -752,6 +836,7 @@ fn orders() -> Vec<Order> {
         store_mix_orders(),
         find_mix_orders(),
         float_orders(),
+        disorder_orders(),
     ]
     .concat()
 }

@@ -19,19 +19,19 @@ pub fn drop_parts<T: Clone>(mut items: Vec<T>, still: &dyn Fn(&[T]) -> bool) -> 
     items
 }
 
-/// Drops or empties places (or entries) of `size` bytes each.
+/// Drops places (or entries) of `size` bytes each, or takes them out: those behind close
+/// up, so that what was in order stays so.
 pub fn shorten_area(mut area: Vec<u8>, size: usize, still: &dyn Fn(&[u8]) -> bool) -> Vec<u8> {
     if area.len() % size != 0 {
         return area;
     }
     for at in (0..area.len()).step_by(size).rev() {
         let dropped = [&area[..at], &area[at + size..]].concat();
-        let mut emptied = area.clone();
-        emptied[at..at + size].fill(0);
+        let taken_out = [&dropped[..], &vec![0; size]].concat();
         if still(&dropped) {
             area = dropped;
-        } else if still(&emptied) {
-            area = emptied;
+        } else if still(&taken_out) {
+            area = taken_out;
         }
     }
     area
@@ -49,11 +49,11 @@ mod tests {
     }
 
     #[test]
-    fn areas_are_dropped_or_emptied() {
+    fn areas_are_dropped_or_taken_out() {
         let still = |area: &[u8]| area.len() >= 4 && area.contains(&3);
         assert_eq!(
             shorten_area(vec![1, 1, 2, 2, 3, 3], 2, &still),
-            [0, 0, 3, 3]
+            [3, 3, 0, 0]
         );
     }
 }

@@ -198,7 +198,7 @@ mod tests {
     #[test]
     fn stories_reach_every_test_of_every_call() {
         let mut tally = Tally::default();
-        for index in 0..3000 {
+        for index in 0..6000 {
             let story = generator::story(Rng::part(1, index));
             assert!((10..=40).contains(&story.steps.len()));
             assert!(check(&story, &Reference, &mut tally).is_none());

@@ -156,21 +156,18 @@ fn scene(rng: &mut Rng, flags: u32, name: &[u8], data: &[u8], identifier: Option
             cmac,
         };
         let entry = flags.replay_protection().then_some(entry);
-        (Some(Place { name, record }), entry)
+        (Place { name, record }, entry)
     };
     let (place, entry) = seal(name, data);
-    let (other, other_entry) = seal(b"other", b"data");
-    let card = Card {
-        slots: vec![other, place],
-    };
-    let chip = Chip {
-        slots: vec![entry, None, other_entry],
-    };
+    // In front of any name here.
+    let (other, other_entry) = seal(b"!", b"data");
+    let card = Card::holding(2, [other, place]);
+    let chip = Chip::holding(3, other_entry.into_iter().chain(entry));
     Scene {
         card: card.encode(),
         chip: chip.encode(),
         stored_at: PLACE + 68 + 20 + data.len(),
-        kept_at: flags.replay_protection().then_some(ENTRY - BLOCK),
+        kept_at: flags.replay_protection().then_some(2 * ENTRY - BLOCK),
         calls: reading(&key, name, identifier),
     }
 }

@@ -219,7 +219,14 @@ impl Met {
 /// The tests that can refuse a call of this kind, from 01's orders and 02.
 fn refusals(kind: &str) -> Vec<Why> {
     use Why::*;
-    let areas = [CardLength, ChipLength, CardDamaged, ChipDamaged];
+    let areas = [
+        CardLength,
+        ChipLength,
+        CardDamaged,
+        ChipDamaged,
+        CardOrder,
+        ChipOrder,
+    ];
     let set = [
         DeviceKeyLength,
         BadFlags,

@@ -1,5 +1,6 @@
 //! Someone with card and chip in hand: flips, swaps, moves, damage in each way of
-//! 01, and things from before put back.
+//! 01, and things from before put back. Who knows the order of 02, No. 7 keeps it, so
+//! that what is planted isn't damage for its place alone.
 
 use std::ops::Range;
 
@@ -43,13 +44,21 @@ impl Tamperer<'_> {
             5..=16 => self.flip_in_record(card),
             17..=26 => self.misshape_place(card),
             27..=36 => self.change_field(card),
-            37..=41 => {
+            37..=40 => {
+                self.take_out(card, PLACE);
+                "a place is taken out"
+            }
+            41 => {
                 self.empty(card, PLACE);
                 "a place is emptied"
             }
-            42..=44 => {
+            42..=43 => {
                 self.swap(card, PLACE);
                 "two places are swapped"
+            }
+            44 => {
+                self.disorder(card, PLACE);
+                "the places are in another order"
             }
             45..=47 => {
                 self.copy(card, PLACE);
@@ -76,7 +85,11 @@ impl Tamperer<'_> {
             }
             4..=8 => self.flip_in_entry(chip),
             9..=16 => self.misshape_entry(chip),
-            17..=21 => {
+            17..=20 => {
+                self.take_out(chip, ENTRY);
+                "an entry is taken out"
+            }
+            21 => {
                 self.empty(chip, ENTRY);
                 "an entry is emptied"
             }
@@ -84,7 +97,11 @@ impl Tamperer<'_> {
                 self.swap(chip, ENTRY);
                 "two entries are swapped"
             }
-            24..=26 => {
+            24 => {
+                self.disorder(chip, ENTRY);
+                "the entries are in another order"
+            }
+            25..=26 => {
                 self.copy(chip, ENTRY);
                 "an entry is copied over another"
             }
@@ -113,8 +130,10 @@ impl Tamperer<'_> {
             }
             64..=68 => _ = self.change_field(card),
             69..=72 => _ = self.move_record(card),
-            73..=77 => self.empty(card, PLACE),
-            78..=82 => self.swap(card, PLACE),
+            73..=79 => self.take_out(card, PLACE),
+            80 => self.empty(card, PLACE),
+            81 => self.swap(card, PLACE),
+            82 => self.disorder(card, PLACE),
             83 => self.copy(card, PLACE),
             84..=85 => _ = self.rename(card),
             86..=97 => self.old_place(card),
@@ -132,16 +151,26 @@ impl Tamperer<'_> {
             let key = keys[usize::from(self.rng.percent(15))];
             let flags = self.rng.pick(flags);
             let record = cast::sealed(self.rng, self.cast, &key, &name, flags).encode();
-            let at = self.place_for(card, &name);
-            card[at..at + PLACE].copy_from_slice(&Place { name, record }.encode());
+            self.put(card, PLACE, &Place { name, record }.encode());
         }
     }
 
-    /// Where the name's own place starts, else a free one, else any.
-    fn place_for(&mut self, card: &[u8], name: &[u8]) -> usize {
-        let free = || card.chunks_exact(PLACE).position(|place| place[0] == 0);
-        let at = place_of(card, name).or_else(|| Some(free()? * PLACE));
-        at.unwrap_or_else(|| slot(self.rng, card, PLACE))
+    /// The slot comes to stand where its name stands, else in a free one, else in any;
+    /// then mostly where it belongs.
+    fn put(&mut self, area: &mut [u8], size: usize, bytes: &[u8]) {
+        let mut slots = area.chunks_exact(size);
+        let own = slots.position(|slot| slot[0] != 0 && name_of(slot) == name_of(bytes));
+        let free = || area.chunks_exact(size).position(|slot| slot[0] == 0);
+        let at = own.or_else(free).map(|at| at * size);
+        let at = at.unwrap_or_else(|| slot(self.rng, area, size));
+        area[at..at + size].copy_from_slice(bytes);
+        self.mostly_settle(area, size);
+    }
+
+    fn mostly_settle(&mut self, area: &mut [u8], size: usize) {
+        if self.rng.percent(90) {
+            settle(area, size);
+        }
     }
 
     /// The CMAC that the chip has comes to stand in the record of its name.
@@ -186,7 +215,7 @@ impl Tamperer<'_> {
     fn old_place(&mut self, card: &mut [u8]) {
         let (old, _) = self.rng.pick(self.past);
         let at = self.used_slot(&old, PLACE);
-        card[at..at + PLACE].copy_from_slice(&old[at..at + PLACE]);
+        self.put(card, PLACE, &old[at..at + PLACE]);
     }
 
     fn flip_in_record(&mut self, card: &mut [u8]) -> &'static str {
@@ -212,11 +241,18 @@ impl Tamperer<'_> {
         "a record's field is changed"
     }
 
+    /// A hole, but for the last of the used ones.
     fn empty(&mut self, area: &mut [u8], size: usize) {
         let at = self.used_slot(area, size);
         area[at..at + size].fill(0);
     }
 
+    fn take_out(&mut self, area: &mut [u8], size: usize) {
+        self.empty(area, size);
+        self.mostly_settle(area, size);
+    }
+
+    /// Used ones or free ones.
     fn swap(&mut self, area: &mut [u8], size: usize) {
         let (a, b) = (slot(self.rng, area, size), slot(self.rng, area, size));
         for i in 0..size {
@@ -224,10 +260,28 @@ impl Tamperer<'_> {
         }
     }
 
+    /// All of them, or the used ones, the other way round; or the first goes behind the
+    /// others, or the last before them.
+    fn disorder(&mut self, area: &mut [u8], size: usize) {
+        let mut slots: Vec<Vec<u8>> = area.chunks_exact(size).map(<[u8]>::to_vec).collect();
+        let used = slots.iter().filter(|slot| slot[0] != 0).count();
+        match self.rng.below(4) {
+            0 => slots.reverse(),
+            1 => slots[..used].reverse(),
+            2 => slots[..used].rotate_left(usize::from(used > 0)),
+            _ => slots.rotate_right(1),
+        }
+        area.copy_from_slice(&slots.concat());
+    }
+
+    /// So that one name stands twice, side by side or not.
     fn copy(&mut self, area: &mut [u8], size: usize) {
         let from = self.used_slot(area, size);
         let to = slot(self.rng, area, size);
         area.copy_within(from..from + size, to);
+        if self.rng.percent(50) {
+            settle(area, size);
+        }
     }
 
     fn move_record(&mut self, card: &mut [u8]) -> &'static str {
@@ -243,6 +297,7 @@ impl Tamperer<'_> {
         let at = self.used_slot(card, PLACE);
         if let Some(place) = Place::read(&card[at..at + PLACE]) {
             card[at..at + PLACE].copy_from_slice(&Place { name, ..place }.encode());
+            self.mostly_settle(card, PLACE);
         }
         "a place is renamed"
     }
@@ -351,13 +406,13 @@ impl Tamperer<'_> {
                 "an old chip is put back"
             }
             2 if old_card.len() == card.len() => {
-                let at = self.used_slot(card, PLACE);
-                card[at..at + PLACE].copy_from_slice(&old_card[at..at + PLACE]);
+                let at = self.used_slot(&old_card, PLACE);
+                self.put(card, PLACE, &old_card[at..at + PLACE]);
                 "an old place is put back"
             }
             3 if old_chip.len() == chip.len() => {
-                let at = self.used_slot(chip, ENTRY);
-                chip[at..at + ENTRY].copy_from_slice(&old_chip[at..at + ENTRY]);
+                let at = self.used_slot(&old_chip, ENTRY);
+                self.put(chip, ENTRY, &old_chip[at..at + ENTRY]);
                 "an old entry is put back"
             }
             _ => {
@@ -372,6 +427,19 @@ impl Tamperer<'_> {
 fn place_of(card: &[u8], name: &[u8]) -> Option<usize> {
     let named = |place: &[u8]| Place::read(place).map_or(false, |place| place.name == name);
     Some(card.chunks_exact(PLACE).position(named)? * PLACE)
+}
+
+/// The name of a place or an entry, with what its length makes of it.
+fn name_of(slot: &[u8]) -> &[u8] {
+    let at = if slot.len() == PLACE { 4 } else { 2 };
+    &slot[at..at + usize::from(slot[1]).min(NAME_MAX)]
+}
+
+/// The used ones to the front, in the order of their names.
+fn settle(area: &mut [u8], size: usize) {
+    let mut slots: Vec<Vec<u8>> = area.chunks_exact(size).map(<[u8]>::to_vec).collect();
+    slots.sort_by_key(|slot| (slot[0] == 0, name_of(slot).to_vec()));
+    area.copy_from_slice(&slots.concat());
 }
 
 /// Where the CMAC of the record stands, as the place that starts there tells its length.
@@ -408,8 +476,78 @@ fn resize(rng: &mut Rng, area: &mut Vec<u8>, size: usize) {
 
 #[cfg(test)]
 mod tests {
+    use std::collections::BTreeMap;
+
     use super::*;
-    use crate::area::Card;
+    use crate::area::{Area, Card, Chip};
+
+    /// What is wrong with the order of these slots, if each by itself is well shaped.
+    fn disorder<S: Slot>(area: &[u8]) -> Option<&'static str> {
+        let slots: Vec<&[u8]> = area.chunks_exact(S::SIZE).collect();
+        if area.len() % S::SIZE != 0 || slots.iter().any(|slot| Area::<S>::decode(slot).is_none()) {
+            return None;
+        }
+        let used = slots.iter().filter(|slot| slot[0] != 0);
+        let names: Vec<&[u8]> = used.map(|slot| name_of(slot)).collect();
+        let mut sorted = names.clone();
+        sorted.sort_unstable();
+        let moved = names.iter().zip(&sorted).filter(|(a, b)| a != b).count();
+        let hole = slots[..names.len()].iter().any(|slot| slot[0] == 0);
+        if sorted.windows(2).any(|pair| pair[0] == pair[1]) {
+            return Some(if moved == 0 {
+                "twice, side by side"
+            } else {
+                "twice"
+            });
+        }
+        match moved {
+            0 => hole.then_some("a hole"),
+            _ if hole => Some("another"),
+            _ if names.len() > 2 && names.iter().rev().eq(&sorted) => Some("reversed"),
+            2 => Some("two swapped"),
+            _ => Some("another"),
+        }
+    }
+
+    #[test]
+    fn every_disorder_comes_on_card_and_chip_alone() {
+        let mut rng = Rng::new(1);
+        let cast = Cast::new(&mut rng);
+        let mut seen: BTreeMap<(&str, &str), usize> = BTreeMap::new();
+        for _ in 0..20_000 {
+            let (mut card, mut chip) = cast::sound_start(&mut rng, &cast, 5, 5);
+            if rng.percent(50) {
+                cast::fill(&mut rng, &cast, &mut card, &mut chip);
+            }
+            let (card, chip) = (card.encode(), chip.encode());
+            let past = [(card.clone(), chip.clone())];
+            let mut tamperer = Tamperer {
+                rng: &mut rng,
+                cast: &cast,
+                past: &past,
+            };
+            let (_, new_card, new_chip) = tamperer.tamper(&card, &chip);
+            let found = match (disorder::<Place>(&new_card), disorder::<Entry>(&new_chip)) {
+                (Some(kind), _) if Chip::decode(&new_chip).is_some() => ("card", kind),
+                (_, Some(kind)) if Card::decode(&new_card).is_some() => ("chip", kind),
+                _ => continue,
+            };
+            *seen.entry(found).or_default() += 1;
+        }
+        for area in ["card", "chip"] {
+            for kind in [
+                "a hole",
+                "two swapped",
+                "reversed",
+                "twice",
+                "twice, side by side",
+                "another",
+            ] {
+                let times = seen.get(&(area, kind)).copied().unwrap_or(0);
+                assert!(times >= 20, "{area}, {kind}: {times}");
+            }
+        }
+    }
 
     /// A card that was forged before may have any bytes, also in its lengths.
     #[test]

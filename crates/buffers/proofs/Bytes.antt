@@ -43,6 +43,12 @@ pub allZero-zeros : (n : ℕ) → allZero (zeros n) ≡ true
 allZero-zeros zero = refl
 allZero-zeros (suc n) = allZero-zeros n
 
+pub zeros-of : (l : List ℕ) → allZero l ≡ true → l ≡ zeros (length l)
+zeros-of [] h = refl
+zeros-of (x ∷ l) h =
+    let p = both (eqb x 0) (allZero l) h in
+    λ i. eqb-true x 0 (p .0) i ∷ zeros-of l (p .1) i
+
 pub length-zeros : (n : ℕ) → length (zeros n) ≡ n
 length-zeros n = length-replicate {A = ℕ} n 0
 

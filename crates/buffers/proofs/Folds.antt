@@ -18,7 +18,7 @@ pub and-true : (a : Bool) → (a && true) ≡ a
 and-true true = refl
 and-true false = refl
 
-or-test : (a b : ℕ) → eqb (bitOr a b) 0 ≡ (eqb a 0 && eqb b 0)
+pub or-test : (a b : ℕ) → eqb (bitOr a b) 0 ≡ (eqb a 0 && eqb b 0)
 or-test a b = split (eqb a 0)
     (λ e. split (eqb b 0)
     (λ f. let p = eqb-true a 0 e in let q = eqb-true b 0 f in rw (e, f) (eq-eqb (bitOr a b) 0 (omega (arith, or-add-and a b))))

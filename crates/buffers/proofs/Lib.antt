@@ -4,4 +4,5 @@ pub mod Lists
 pub mod LittleEndian
 pub mod Folds
 pub mod Differences
+pub mod Order
 pub mod Theorems

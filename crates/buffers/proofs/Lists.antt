@@ -1,10 +1,24 @@
 -- Parts of byte strings, and byte strings put into a buffer one after the other. Assumes nothing.
 use mathlib.Core.Path.{_≡_, sym, ap, _∙_}
-use mathlib.Core.List.{List, [], _++_, append-assoc, append-nil}
-use Prim.Native.Nat.{ℕ, _+_, _-_, _≤_}
+use mathlib.Core.List.{List, [], _∷_, _++_, append-assoc, append-nil}
+use Prim.Native.Nat.{ℕ, zero, suc, _+_, _-_, _≤_, _<_}
 use native.Mathlib.Omega.{arith}
-use lib.ListN.{length, take, drop, length-take, length-drop, drop-of-length-le}
-use lib.Seq.{take-length, take-all, take-at, drop-append-add, drop-drop}
+use lib.ListN.{length, getD, take, drop, set, length-take, length-drop, drop-of-length-le, List·getD-append}
+use lib.Seq.{
+  take-length,
+  take-all,
+  take-at,
+  take-suc,
+  drop-cons,
+  drop-append-add,
+  drop-drop,
+  append-snoc,
+  length-take-le,
+  getD-take,
+  getD-drop,
+  getD-append-add,
+  set-at,
+}
 use borrow.Rule.Slice.PartMut.{putMid}
 use Rattle.buffers.specs.Bytes.{zeros, zeroFill, putAt}
 use Rattle.buffers.proofs.Bytes.{drop-zeros}
@@ -67,3 +81,58 @@ pasted at dst src =
     let z : drop (length src) (take (length src) (drop at dst)) ≡ [] =
     drop-of-length-le (take (length src) (drop at dst)) {i = length src} (omega (arith, length-take (length src) (drop at dst))) in
     rw (e, take-length src, z, append-nil src, drop-drop (length src) at dst)
+
+-- ---- a block moved within its buffer
+
+-- one more byte is moved, from the last to the first
+move-one-up : (d : List ℕ) (w i : ℕ) → i + w < length d
+    → let l = take (suc (i + w)) d ++ drop (suc i) (take (length d - w) d) in set l (i + w) (getD l i 0) ≡ take (i + w) d ++ drop i (take (length d - w) d)
+move-one-up d w i h =
+    let n = length d - w in
+    let front = length-take-le (suc (i + w)) d (omega arith) in
+    let byte : getD (take (suc (i + w)) d ++ drop (suc i) (take n d)) i 0 ≡ getD (take n d) i 0 =
+    List·getD-append (take (suc (i + w)) d) (drop (suc i) (take n d)) 0 i (omega arith)
+    ∙ getD-take (suc (i + w)) d i 0 (omega arith)
+    ∙ sym (getD-take n d i 0 (omega arith)) in
+    let whole : take (suc (i + w)) d ++ drop (suc i) (take n d) ≡ take (i + w) d ++ getD d (i + w) 0 ∷ drop (suc i) (take n d) =
+    ap (λ (l : List ℕ). l ++ drop (suc i) (take n d)) (take-suc d (i + w) 0 h)
+    ∙ append-snoc (take (i + w) d) (getD d (i + w) 0) (drop (suc i) (take n d)) in
+    let rest = drop-cons (take n d) i 0 (rw length-take (omega arith)) in
+    ap (λ (x : ℕ). set (take (suc (i + w)) d ++ drop (suc i) (take n d)) (i + w) x) byte
+    ∙ ap (λ (l : List ℕ). set l (i + w) (getD (take n d) i 0)) whole
+    ∙ set-at
+    (take (i + w) d)
+    (getD d (i + w) 0)
+    (drop (suc i) (take n d))
+    (getD (take n d) i 0)
+    (i + w)
+    (length-take-le (i + w) d (omega arith))
+    ∙ ap (λ (l : List ℕ). take (i + w) d ++ l) (sym rest)
+
+pub moved-up : (d : List ℕ) (w i : ℕ) → 0 < i → i + w ≤ length d
+    → let l = take (i + w) d ++ drop i (take (length d - w) d) in
+    set l (i - 1 + w) (getD l (i - 1) 0) ≡ take (i - 1 + w) d ++ drop (i - 1) (take (length d - w) d)
+moved-up d w zero z h = absurd (omega arith)
+moved-up d w (suc i) z h =
+    let e : suc i - 1 ≡ i = omega arith in
+    let k : suc i + w ≡ suc (i + w) = omega arith in
+    rw (e, k) (move-one-up d w i (omega arith))
+
+-- the same from the first to the last
+pub moved-down : (d : List ℕ) (w i : ℕ) → i + w < length d
+    → let l = take i (drop w d) ++ drop i d in set l i (getD l (i + w) 0) ≡ take (suc i) (drop w d) ++ drop (suc i) d
+moved-down d w i h =
+    let front : length (take i (drop w d)) ≡ i = length-take-le i (drop w d) (rw length-drop (omega arith)) in
+    let p = take i (drop w d) in
+    let byte : getD (p ++ drop i d) (i + w) 0 ≡ getD (drop w d) i 0 =
+    ap (λ (k : ℕ). getD (p ++ drop i d) (k + w) 0) (sym front)
+    ∙ getD-append-add p (drop i d) w 0
+    ∙ getD-drop i d w 0
+    ∙ ap (λ (k : ℕ). getD d k 0) (omega arith)
+    ∙ sym (getD-drop w d i 0) in
+    let x = getD (drop w d) i 0 in
+    ap (λ (y : ℕ). set (p ++ drop i d) i y) byte
+    ∙ ap (λ (l : List ℕ). set (p ++ l) i x) (drop-cons d i 0 (omega arith))
+    ∙ set-at p (getD d i 0) (drop (suc i) d) x i front
+    ∙ sym (append-snoc p x (drop (suc i) d))
+    ∙ ap (λ (l : List ℕ). l ++ drop (suc i) d) (sym (take-suc (drop w d) i 0 (rw length-drop (omega arith))))

@@ -3,10 +3,11 @@ use mathlib.Core.Path.{refl, _∙_, sym, ap}
 use lib.ListN.{length}
 use borrow.Author.Tests.{eqb-true, eq-eqb}
 use Rattle.buffers.specs.Compare.{diffAccumulate}
-use Rattle.buffers.specs.Laws.{ByteLaws, DifferenceLaws, NumberLaws}
+use Rattle.buffers.specs.Laws.{ByteLaws, OrderLaws, DifferenceLaws, NumberLaws}
 use Rattle.buffers.proofs.Bytes.{bytesEq-eq, eq-bytesEq, le-value, length-leBytes}
 use Rattle.buffers.proofs.Folds.{diff-test}
 use Rattle.buffers.proofs.Differences.{firstPairs, all-pairs, first-bit, bit-first, first-byte}
+use Rattle.buffers.proofs.Order.{order-laws}
 use Rattle.buffers.proofs.LittleEndian.{digit-at, two-at, four-at}
 
 pub bytes : ByteLaws
@@ -14,6 +15,9 @@ bytes = record {
   equal = λ a b. (bytesEq-eq a b, eq-bytesEq a b);
   fill = λ n. refl;
 }
+
+pub order : OrderLaws
+order = order-laws
 
 pub differences : DifferenceLaws
 differences = record {

@@ -1,20 +1,34 @@
 -- What the words of this crate that statements use mean, in the library's own words: a word given another meaning breaks its law here, even where every
 -- statement that uses it would still hold.
 use mathlib.Core.Path.{_≡_}
-use mathlib.Core.Logic.{_≢_, _↔_}
-use mathlib.Core.Bool.{true}
+use mathlib.Core.Logic.{_≢_, _⊎_, _↔_}
+use mathlib.Core.Bool.{true, false}
 use mathlib.Core.List.{List}
 use Prim.Native.Nat.{ℕ, _+_, _*_, _/_, _%_, _^_, _<_}
 use lib.Bits.{bitOr, bitXor}
-use lib.ListN.{length, getD, replicate}
+use lib.ListN.{length, getD, take, replicate}
 use Rattle.buffers.specs.Bytes.{bytesEq, zeros, leBytes, leValue, u16At, u32At}
-use Rattle.buffers.specs.Compare.{diffAccumulate}
+use Rattle.buffers.specs.Compare.{precedes, diffAccumulate}
 
 pub record ByteLaws : Type 0 where
   -- the test of two byte strings is their equality
   pub equal : (a b : List ℕ) → (bytesEq a b ≡ true) ↔ (a ≡ b)
   -- a fill is zero at every length
   pub fill : (n : ℕ) → zeros n ≡ replicate n 0
+
+-- up to i the two are equal, and there a ends, or has the smaller byte
+pub record FirstDifference (a b : List ℕ) : Type 0 where
+  pub i : ℕ
+  pub in-range : i < length b
+  pub same : take i a ≡ take i b
+  pub smaller : (i ≡ length a) ⊎ ((i < length a) × (getD a i 0 < getD b i 0))
+
+-- 02, No. 7: "byte order of their names (a prefix first)", a strict total order
+pub record OrderLaws : Type 0 where
+  pub exact : (a b : List ℕ) → (precedes a b ≡ true) ↔ FirstDifference a b
+  pub irreflexive : (a : List ℕ) → precedes a a ≡ false
+  pub transitive : (a b c : List ℕ) → precedes a b ≡ true → precedes b c ≡ true → precedes a c ≡ true
+  pub total : (a b : List ℕ) → (precedes a b ≡ true) ⊎ (a ≡ b) ⊎ (precedes b a ≡ true)
 
 -- 02, No. 3: what a comparison of CMACs hands back, and its yes
 pub record DifferenceLaws : Type 0 where

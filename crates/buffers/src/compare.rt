@@ -1,8 +1,9 @@
-// Comparisons that look at every byte, and decide at the end or leave it to the caller.
+// Comparisons: those for equality look at every byte, and decide at the end or leave it to the caller; that for order stops where two bytes differ.
 ghost use mathlib.Core.Path.{_≡_};
+ghost use Prim.Native.Nat.{min};
 ghost use lib.ListN.{length};
 ghost use Rattle.buffers.specs.Bytes.{allZero, bytesEq};
-ghost use Rattle.buffers.specs.Compare.{diffAccumulate};
+ghost use Rattle.buffers.specs.Compare.{precedes, diffAccumulate};
 
 // An or over all bytes with one test after it: such a loop is vectorised.
 pub fn all_zero(s: &[u8]) -> bool
@@ -46,4 +47,28 @@ pub fn tag_difference(a: [u8; 16], b: [u8; 16]) -> u8
     ensures { λ r. ⌜ r ≡ diffAccumulate a b ⌝ }
 {
     diff_accumulate(&a, &b)
+}
+
+fn shorter(a: usize, b: usize) -> usize
+    ensures { λ r. ⌜ r ≡ min a b ⌝ }
+{
+    if a < b {
+        return a;
+    }
+    b
+}
+
+// 02, No. 7: "byte order [..] (a prefix first)"
+pub fn precedes(a: &[u8], b: &[u8]) -> bool
+    ensures { λ r. ⌜ r ≡ precedes (now (a .entry)) (now (b .entry)) ⌝ }
+{
+    let n = shorter(a.len(), b.len());
+    let mut i: usize = 0;
+    while i < n {
+        if a[i] != b[i] {
+            return a[i] < b[i];
+        }
+        i += 1;
+    }
+    a.len() < b.len()
 }

@@ -1,7 +1,7 @@
-// Parts of buffers: cleared, written over, and taken as arrays.
+// Parts of buffers: cleared, moved, written over, and taken as arrays.
 ghost use mathlib.Core.Path.{_≡_};
 ghost use mathlib.Core.List.{_++_};
-ghost use Prim.Native.Nat.{_+_, _≤_, min};
+ghost use Prim.Native.Nat.{_+_, _-_, _≤_, min};
 ghost use lib.ListN.{length, take, drop};
 ghost use Rattle.buffers.specs.Bytes.{zeros, putAt};
 
@@ -11,6 +11,31 @@ pub fn clear(part: &mut [u8])
     let mut i = 0;
     while i < part.len() {
         part[i] = 0;
+        i += 1;
+    }
+}
+
+// Every byte w bytes on; the first w bytes stay, and the last w go.
+pub fn move_up(part: &mut [u8], w: usize)
+    requires { ⌜ w ≤ length (now part) ⌝ }
+    ensures { λ _. ⌜ now (part .exit) ≡ take w (now (part .entry)) ++ take (length (now (part .entry)) - w) (now (part .entry)) ⌝ }
+{
+    let mut i = part.len() - w;
+    while 0 < i {
+        i -= 1;
+        part[i + w] = part[i];
+    }
+}
+
+// Every byte w bytes back; the first w bytes go, and the last w stay.
+pub fn move_down(part: &mut [u8], w: usize)
+    requires { ⌜ w ≤ length (now part) ⌝ }
+    ensures { λ _. ⌜ now (part .exit) ≡ drop w (now (part .entry)) ++ drop (length (now (part .entry)) - w) (now (part .entry)) ⌝ }
+{
+    let n = part.len() - w;
+    let mut i = 0;
+    while i < n {
+        part[i] = part[i + w];
         i += 1;
     }
 }

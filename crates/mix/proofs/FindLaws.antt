@@ -11,7 +11,7 @@ use lib.Dec.{eqb, leb}
 use lib.ListN.{length, getD}
 use Rattle.spec.specs.Status.{ok, Test, _when_, refuseIf, firstOf, onOk, bufferAnswer}
 use Rattle.spec.specs.Name.{Name}
-use Rattle.spec.specs.Slots.{member, distinct}
+use Rattle.spec.specs.Slots.{member}
 use Rattle.spec.specs.Area.{kvFormat, rbpFormat, slotHolder, slotCount, slots, sized, intact}
 use Rattle.spec.specs.Decisions.{keySized}
 use Rattle.spec.specs.Calls.{areas, areaLengths, areaDamage}
@@ -27,7 +27,8 @@ use Rattle.mix.specs.declared.monitor.MixAnswer.{MixAnswer}
 use Rattle.mix.proofs.Scan.{recordStatus, record-passed, records}
 use Rattle.mix.proofs.MixLaws.{decode-valid, decode-done, valid-decode}
 use Rattle.mix.proofs.Read.{session-valid, not-decoded, got-readable, readable-got, data-opened}
-use Rattle.mix.proofs.Names.{selected-in, in-selected, distinct-selected, two-in, mix-name, name-mix, name-at, at-name, names-distinct, one-place}
+use Rattle.mix.proofs.Names.{selected-in, in-selected, distinct, distinct-selected}
+use Rattle.mix.proofs.Names.{two-in, mix-name, name-mix, name-at, at-name, names-distinct, one-place}
 use Rattle.mix.proofs.Names.{past-records, each-record, first-refused}
 
 -- ---- lists of names

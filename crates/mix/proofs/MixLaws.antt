@@ -8,7 +8,7 @@ use native.Mathlib.Omega.{arith}
 use borrow.Author.Tests.{ltb-true, ltb-false, leb-true, le-leb, lt-leb, eqb-true, eq-eqb}
 use lib.Dec.{eqb, leb, ltb}
 use lib.ListN.{length, getD, take, drop, replicate, length-append, length-take, length-drop, length-map, length-replicate, List·getD-eq-default}
-use lib.Seq.{take-at, drop-cons, length-take-le, getD-take, getD-drop, drop-drop}
+use lib.Seq.{take-at, drop-cons, length-take-le, getD-take, drop-drop}
 use Rattle.buffers.specs.Bytes.{every, leBytes}
 use Rattle.buffers.proofs.Bytes.{le-value}
 use Rattle.buffers.proofs.LittleEndian.{number-part, number-small}
@@ -18,6 +18,7 @@ use Rattle.spec.specs.Status.{refuseIf, onOk, bufferAnswer}
 use Rattle.spec.specs.Shapes.{AreBytes}
 use Rattle.spec.proofs.Chunks.{wide, length-chunks, length-join, chunks-join, chunk-at, join-chunks}
 use Rattle.spec.proofs.First.{every-index, index-every}
+use Rattle.spec.proofs.Shapes.{bytes-drop, bytes-part}
 use Rattle.mix.specs.Send.{sendValid, sendOf}
 use Rattle.mix.specs.Mix.{counted, slotInRange, slotBytes, mixInRange, mixBytes, sessionAt, countAt, sendsAt, mixValid, muted, readSends, mixOf}
 use Rattle.mix.specs.Mix.{zeroMix, decodeMix, encodeTests, encodeMix}
@@ -151,16 +152,6 @@ module _ (m : MonitorMix) (f : MixFits m) (r : InRange m) where
       λ i. record { «session_id» = written-session i; count = written-count i; sends = sends (countAt (mixBytes m)) written-count i }
 
 -- ---- from bytes to a mix and back
-
-bytes-drop : (l : List ℕ) → AreBytes l → (i : ℕ) → AreBytes (drop i l)
-bytes-drop l a i j = rw (getD-drop i l j 0) (a (i + j))
-
-bytes-part : (l : List ℕ) → AreBytes l → (i k : ℕ) → AreBytes (take k (drop i l))
-bytes-part l a i k j = split (ltb j k)
-    (λ t. rw (getD-take k (drop i l) j 0 (ltb-true j k t)) (bytes-drop l a i j))
-    (λ t.
-    let long : length (take k (drop i l)) ≤ j = omega (arith, length-take k (drop i l), ltb-false j k t) in
-    rw (List·getD-eq-default (take k (drop i l)) 0 {n = j} long) (omega arith))
 
 -- what is asked of each of the parts: nine bytes of a send
 abbrev Formed : List (List ℕ) → Type 0

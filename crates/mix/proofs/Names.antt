@@ -1,24 +1,25 @@
 -- The names of mixes on a card and the slots that they use; what the tests of all records come to. Assumes nothing.
 use mathlib.Core.Path.{_≡_, refl, sym, ap, _∙_}
 use mathlib.Core.Logic.{_≢_, inl, inr}
-use mathlib.Core.Bool.{Bool, true, false, not}
+use mathlib.Core.Bool.{Bool, true, false, not, _&&_}
 use mathlib.Core.List.{List, [], _∷_, flatten, List·Memᴰ, List·Memᴰ·head, List·Memᴰ·tail, List·Memᴰ·not-nil, List·Memᴰ·cases-cons}
-use mathlib.Core.Option.{some}
+use mathlib.Core.Option.{Option, some}
 use Prim.Native.Nat.{ℕ, zero, suc, _≤_, _<_}
 use native.Mathlib.Nat.{not-suc-le-zero, le-of-suc-le-suc}
 use native.Mathlib.Omega.{arith}
 use lib.ListN.{length, getD}
-use Rattle.buffers.specs.Bytes.{every}
 use Rattle.spec.specs.Status.{ok, Test, firstOf}
 use Rattle.spec.specs.Name.{Name}
-use Rattle.spec.specs.Slots.{member, distinct}
-use Rattle.spec.specs.Area.{kvFormat, slotValid, slotHolder, slots, names, intact}
-use Rattle.buffers.proofs.Split.{split, clash, both, not-true-is}
+use Rattle.spec.specs.Slots.{isName, member, namesBy}
+use Rattle.spec.specs.Area.{kvFormat, slotHolder, slots, names, intact}
+use Rattle.buffers.proofs.Split.{split, splitO, clash, both, not-true-is}
 use Rattle.buffers.proofs.Bytes.{bytesEq-eq, eq-bytesEq}
 use Rattle.spec.proofs.Chunks.{slots-length, slot-at}
 use Rattle.spec.proofs.NameLists.{member-in, in-member}
 use Rattle.spec.proofs.Status.{by-status}
-use Rattle.spec.proofs.Intact.{intact-shape}
+use Rattle.spec.proofs.Slots.{at-held, find-any, Distinct, member-any}
+use Rattle.spec.proofs.Area.{intact-distinct}
+use Rattle.spec.proofs.Intact.{no-name-twice}
 use Rattle.mix.specs.Calls.{mixNamed, mixPrefix, selected, mixNames}
 use Rattle.mix.specs.Laws.{MixName, MixAt}
 use Rattle.mix.proofs.Scan.{namesIn, no-mix, a-mix, slot-of, recordStatus, records, record-stops, record-passes}
@@ -39,6 +40,17 @@ in-selected t (m ∷ l) n (List·Memᴰ·head z) h = rw (rw z at h) (List·Mem�
 in-selected t (m ∷ l) n (List·Memᴰ·tail k) h = split (t m)
     (λ e. rw e (List·Memᴰ·tail (in-selected t l n k h)))
     (λ e. rw e (in-selected t l n k h))
+
+-- no name twice
+abbrev pub distinct : List Name → Bool
+distinct [] = true
+distinct (n ∷ l) = not (member n l) && distinct l
+
+distinct-names : {S : Type 0} (at : S → Option Name) (ss : List S) → Distinct at ss → distinct (namesBy at ss) ≡ true
+distinct-names at [] d = refl
+distinct-names at (s ∷ ss) d = splitO (at s) (λ e. rw e (distinct-names at ss (d .1))) (λ m e.
+    let gone : member m (namesBy at ss) ≡ false = member-any at m ss ∙ sym (find-any (λ x. isName m (at x)) ss) ∙ rw (d .0 m (at-held at m s e)) in
+    rw (e, gone, distinct-names at ss (d .1)))
 
 pub distinct-selected : (t : Name → Bool) (l : List Name) → distinct l ≡ true → distinct (selected t l) ≡ true
 distinct-selected t [] h = refl
@@ -104,15 +116,13 @@ module _ (kv : List ℕ) where
 
   module _ (good : intact kvFormat kv ≡ true) where
     pub names-distinct : distinct (mixNames kv) ≡ true
-    unfolding intact
     names-distinct =
-        let d = both (every (slotValid kvFormat) (slots kvFormat kv)) (distinct (names kvFormat kv)) good .1 in
-        distinct-selected mixNamed (names kvFormat kv) d
+        distinct-selected mixNamed (names kvFormat kv) (distinct-names (slotHolder kvFormat) (slots kvFormat kv) (intact-distinct kvFormat kv good))
 
     -- no name uses two slots
     pub one-place : (i j : ℕ) (n : Name) → MixAt kv i n → MixAt kv j n → i ≡ j
     one-place i j n a b =
-        intact-shape kvFormat kv .0 good .once i j n (a .in-range) (b .in-range)
+        no-name-twice kvFormat kv good i j n (a .in-range) (b .in-range)
         (rw (slot-at kvFormat kv i (a .in-range)) at (a .held)) (rw (slot-at kvFormat kv j (b .in-range)) at (b .held))
 
 -- ---- the tests of all records

@@ -7,7 +7,7 @@ use native.Mathlib.Nat.{suc-mul, mul-le-mul-right}
 use native.Mathlib.Omega.{arith}
 use borrow.Author.Tests.{eqb-true, eq-eqb, ne-eqb, lt-leb, le-leb}
 use lib.Dec.{leb}
-use lib.ListN.{length, getD, take, drop}
+use lib.ListN.{length, getD, take, drop, length-take, length-drop}
 use Rattle.spec.specs.Slots.{firstIndex}
 use Rattle.spec.specs.Area.{Format, slotCount, slots, sized, slotValid}
 use Rattle.buffers.specs.Bytes.{every}
@@ -59,6 +59,19 @@ module _ (F : Format) (l : List ℕ) where
 
       pub slot-fit : every (slotValid F) (slots F l) ≡ true → (length x ≡ F .slotSize) × (slotValid F x ≡ true)
       slot-fit v = (slot-sized, slot-well v)
+
+  -- the slots from i to e
+  module _ (s : sized F l ≡ true) (i e : ℕ) (h : i < e) (k : e ≤ slotCount F l) (w : ℕ) (z : w ≡ F .slotSize) where
+    pub block-ends : (i * w + w ≤ e * w) × (e * w ≤ length l)
+    block-ends =
+        let a : suc i * w ≤ e * w = mul-le-mul-right w h in
+        let b = suc-mul i w in
+        let c : e * w ≤ slotCount F l * w = mul-le-mul-right w k in
+        let d : slotCount F l * w ≡ length l = rw z (sym (sized-length F l s)) in
+        (omega arith, omega arith)
+
+    pub block-long : F .slotSize ≤ length (take (e * w - i * w) (drop (i * w) l))
+    block-long = let a = block-ends .0 in let b = block-ends .1 in rw (length-take, length-drop) (omega arith)
 
   module _ (k i : ℕ) (e : k ≡ slotCount F l) where
     pub in-slots : i < k → i < length (slots F l)

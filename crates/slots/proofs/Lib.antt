@@ -3,5 +3,6 @@ pub mod KindLaws
 pub mod SlotBytes
 pub mod SlotLaws
 pub mod AreaLaws
-pub mod Lookup
+pub mod Order
+pub mod Blocks
 pub mod Edits

@@ -13,7 +13,7 @@ use Rattle.spec.specs.Name.{validName}
 use Rattle.spec.specs.Area.{Format, stateByte, nameLength, slotFree, slotName, slotUsed, slotValid, slotHolder, holds}
 use Rattle.buffers.proofs.Split.{split, clash}
 use Rattle.buffers.proofs.Lists.{part, rest-part}
-use Rattle.spec.proofs.Slot.{state-not-free}
+use Rattle.spec.proofs.Slot.{state-not-free, not-free, used-slot}
 
 module _ (F : Format) (s : List ℕ) where
   -- no state: well shaped is free
@@ -52,6 +52,9 @@ module _ (F : Format) (s : List ℕ) where
   pub holds-used : (n : List ℕ) → slotValid F s ≡ true → holds F n s ≡ true → slotUsed F s ≡ true
   unfolding slotHolder
   holds-used n v h = split (slotFree s) (λ e. clash false (rw e at h) refl) (λ e. taken-is-used v e)
+
+  pub used-not-free : slotUsed F s ≡ true → slotFree s ≡ false
+  used-not-free h = not-free s (used-slot F s h .state)
 
   -- the tests of a used slot, at the numbers that the code has
   pub used-tests : (at payload m : ℕ) → at ≡ F .nameOffset → payload ≡ F .payloadOffset → m ≡ F .payloadLength s → length s ≡ F .slotSize

@@ -28,6 +28,3 @@ module _ {A : Type 0} (d : A) (t : A → Bool) (l : List A) (i : ℕ) (h : i < l
 module _ {A : Type 0} (t : A → Bool) (l : List A) (i : ℕ) where
   pub first-past : (n : ℕ) → i + firstIndex t (drop i l) ≡ n → length l ≤ i → i ≡ n
   first-past n inv h = let z : firstIndex t (drop i l) ≡ 0 = ap (firstIndex t) (drop-of-length-le l {i = i} h) in omega arith
-
-  pub every-past : length l ≤ i → every t (drop i l) ≡ true
-  every-past h = ap (every t) (drop-of-length-le l {i = i} h)

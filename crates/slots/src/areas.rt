@@ -3,16 +3,16 @@ use crate::AreaKind;
 use crate::slot;
 use buffers::parts;
 ghost use mathlib.Core.Path.{_≡_};
-ghost use mathlib.Core.Bool.{true, false};
-ghost use mathlib.Core.List.{[]};
-ghost use Prim.Native.Nat.{_+_, _≤_, _<_};
-ghost use lib.ListN.{length, getD, drop};
-ghost use Rattle.buffers.specs.Bytes.{every};
-ghost use Rattle.spec.specs.Slots.{distinct, firstIndex};
-ghost use Rattle.spec.specs.Area.{kvFormat, payloadSize, slotFree, slotUsed, slotValid, slotName, holds, slotCount, slots, sized, names, intact, hasSpace};
+ghost use mathlib.Core.Bool.{true};
+ghost use mathlib.Core.List.{[], _++_};
+ghost use Prim.Native.Nat.{_-_, _≤_, _<_};
+ghost use lib.ListN.{length, getD, take, drop};
+ghost use Rattle.buffers.specs.Bytes.{zeros};
+ghost use Rattle.spec.specs.Slots.{firstIndex};
+ghost use Rattle.spec.specs.Area.{kvFormat, payloadSize, slotFree, slotUsed, slotValid, slotName, makeSlot, slotCount, slots, sized, intact, hasSpace};
 ghost use Rattle.spec.specs.Calls.{slotHasPrefix, nextMatch};
 ghost use Rattle.slots.specs.Kind.{formatOf};
-ghost use Rattle.slots.specs.Found.{foundIn, slotAt, CanRead, payloadAt, insertAt, eraseAt};
+ghost use Rattle.slots.specs.Found.{slotFor, foundIn, slotAt, mayFollow, CanRead, CanInsert, payloadAt, insertEnd, insertAt, eraseAt};
 
 pub fn slot_count(kind: AreaKind, area: &[u8]) -> usize
     ensures { λ r. ⌜ r ≡ slotCount (formatOf kind) (now (area .entry)) ⌝ }
@@ -45,47 +45,31 @@ fn slot_at<'a>(kind: AreaKind, area: &'a [u8], i: usize) -> &'a [u8]
     &area[at..end]
 }
 
-// The first slot from `start` on that the name uses; or one past the last, or past the start.
-fn first_holding(kind: AreaKind, area: &[u8], name: &[u8], start: usize) -> usize
-    requires { ⌜ (sized (formatOf kind) (now area) ≡ true) × (every (slotValid (formatOf kind)) (slots (formatOf kind) (now area)) ≡ true) ⌝ }
-    ensures { λ r. ⌜ r ≡ start + firstIndex (holds (formatOf kind) (now (name .entry))) (drop start (slots (formatOf kind) (now (area .entry)))) ⌝ }
+// Whether a slot is well shaped, and may stand behind the one before it.
+fn slot_follows(kind: AreaKind, area: &[u8], i: usize) -> bool
+    requires { ⌜ (sized (formatOf kind) (now area) ≡ true) × (i < slotCount (formatOf kind) (now area)) ⌝ }
+    requires { ⌜ (0 < i) × (slotValid (formatOf kind) (slotAt (formatOf kind) (now area) (i - 1)) ≡ true) ⌝ }
+    ensures { λ r. ⌜ r ≡ mayFollow (formatOf kind) (slotAt (formatOf kind) (now (area .entry)) (i - 1)) (slotAt (formatOf kind) (now (area .entry)) i) ⌝ }
 {
-    let k = slot_count(kind, area);
-    let mut i = start;
-    while i < k {
-        if slot::slot_holds(kind, slot_at(kind, area, i), name) {
-            return i;
-        }
-        i += 1;
+    let s = slot_at(kind, area, i);
+    if !slot::slot_valid(kind, s) {
+        return false;
     }
-    i
+    slot::slots_in_order(kind, slot_at(kind, area, i - 1), s)
 }
 
-// The lowest free slot, or the count of slots.
-fn first_free(kind: AreaKind, area: &[u8]) -> usize
-    requires { ⌜ (sized (formatOf kind) (now area) ≡ true) × (every (slotValid (formatOf kind)) (slots (formatOf kind) (now area)) ≡ true) ⌝ }
-    ensures { λ r. ⌜ r ≡ firstIndex slotFree (slots (formatOf kind) (now (area .entry))) ⌝ }
-{
-    let k = slot_count(kind, area);
-    let mut i = 0;
-    while i < k {
-        let s = slot_at(kind, area, i);
-        if s[0] == 0 {
-            return i;
-        }
-        i += 1;
-    }
-    i
-}
-
-fn slots_valid(kind: AreaKind, area: &[u8]) -> bool
+// 01: no "damage", and 02, No. 7: "any other order is damage". Neighbours in order are all in order.
+pub fn area_intact(kind: AreaKind, area: &[u8]) -> bool
     requires { ⌜ sized (formatOf kind) (now area) ≡ true ⌝ }
-    ensures { λ r. ⌜ r ≡ every (slotValid (formatOf kind)) (slots (formatOf kind) (now (area .entry))) ⌝ }
+    ensures { λ r. ⌜ r ≡ intact (formatOf kind) (now (area .entry)) ⌝ }
 {
     let k = slot_count(kind, area);
-    let mut i = 0;
+    if !slot::slot_valid(kind, slot_at(kind, area, 0)) {
+        return false;
+    }
+    let mut i = 1;
     while i < k {
-        if !slot::slot_valid(kind, slot_at(kind, area, i)) {
+        if !slot_follows(kind, area, i) {
             return false;
         }
         i += 1;
@@ -93,45 +77,53 @@ fn slots_valid(kind: AreaKind, area: &[u8]) -> bool
     true
 }
 
-fn names_distinct(kind: AreaKind, area: &[u8]) -> bool
-    requires { ⌜ (sized (formatOf kind) (now area) ≡ true) × (every (slotValid (formatOf kind)) (slots (formatOf kind) (now area)) ≡ true) ⌝ }
-    ensures { λ r. ⌜ r ≡ distinct (names (formatOf kind) (now (area .entry))) ⌝ }
+// The first free slot, or the count of slots, by binary search: the used ones stand at the front.
+fn first_free(kind: AreaKind, area: &[u8]) -> usize
+    requires { ⌜ (sized (formatOf kind) (now area) ≡ true) × (intact (formatOf kind) (now area) ≡ true) ⌝ }
+    ensures { λ r. ⌜ r ≡ firstIndex slotFree (slots (formatOf kind) (now (area .entry))) ⌝ }
 {
-    let k = slot_count(kind, area);
-    let mut i = 0;
-    while i < k {
-        let s = slot_at(kind, area, i);
+    let mut low = 0;
+    let mut high = slot_count(kind, area);
+    while low < high {
+        let mid = (low + high) / 2;
+        let s = slot_at(kind, area, mid);
         if s[0] == 0 {
-            i += 1;
+            high = mid;
         } else {
-            if first_holding(kind, area, slot::slot_name(kind, s), i + 1) < k {
-                return false;
-            }
-            i += 1;
+            low = mid + 1;
         }
     }
-    true
+    low
 }
 
-// 01: no "damage"
-pub fn area_intact(kind: AreaKind, area: &[u8]) -> bool
-    requires { ⌜ sized (formatOf kind) (now area) ≡ true ⌝ }
-    ensures { λ r. ⌜ r ≡ intact (formatOf kind) (now (area .entry)) ⌝ }
+// The first slot that does not stand before the name, or the count of slots, by binary search.
+fn slot_for(kind: AreaKind, area: &[u8], name: &[u8]) -> usize
+    requires { ⌜ (sized (formatOf kind) (now area) ≡ true) × (intact (formatOf kind) (now area) ≡ true) ⌝ }
+    ensures { λ r. ⌜ r ≡ slotFor (formatOf kind) (now (area .entry)) (now (name .entry)) ⌝ }
 {
-    if !slots_valid(kind, area) {
-        return false;
+    let mut low = 0;
+    let mut high = slot_count(kind, area);
+    while low < high {
+        let mid = (low + high) / 2;
+        if slot::slot_precedes(kind, slot_at(kind, area, mid), name) {
+            low = mid + 1;
+        } else {
+            high = mid;
+        }
     }
-    names_distinct(kind, area)
+    low
 }
 
+// The last slot tells: the used ones stand at the front.
 pub fn has_space(kind: AreaKind, area: &[u8]) -> bool
     requires { ⌜ (sized (formatOf kind) (now area) ≡ true) × (intact (formatOf kind) (now area) ≡ true) ⌝ }
     ensures { λ r. ⌜ r ≡ hasSpace (formatOf kind) (now (area .entry)) ⌝ }
 {
-    first_free(kind, area) < slot_count(kind, area)
+    let s = slot_at(kind, area, slot_count(kind, area) - 1);
+    s[0] == 0
 }
 
-// Where a name's slot is: its own, or, where the area does not hold the name, the one that it would take; the count of slots, where none is free.
+// Where a name's slot is: its own, or, where the area does not hold the name, the one that it would take; the count of slots, where that is behind all.
 pub struct Found {
     pub at: usize,
     pub held: bool,
@@ -141,14 +133,12 @@ pub fn find(kind: AreaKind, area: &[u8], name: &[u8]) -> Found
     requires { ⌜ (sized (formatOf kind) (now area) ≡ true) × (intact (formatOf kind) (now area) ≡ true) ⌝ }
     ensures { λ r. ⌜ r ≡ foundIn (formatOf kind) (now (area .entry)) (now (name .entry)) ⌝ }
 {
-    let at = first_holding(kind, area, name, 0);
+    let at = slot_for(kind, area, name);
     if at < slot_count(kind, area) {
-        return Found { at, held: true };
+        let held = slot::slot_holds(kind, slot_at(kind, area, at), name);
+        return Found { at, held };
     }
-    Found {
-        at: first_free(kind, area),
-        held: false,
-    }
+    Found { at, held: false }
 }
 
 // What the slot that was found holds for the name; nothing, where the name is not held.
@@ -163,26 +153,83 @@ pub fn payload_at<'a>(kind: AreaKind, area: &'a [u8], found: Found) -> &'a [u8]
     }
 }
 
+// The slots of a part one slot on; the last one goes. The width is a number in each call, so that it is one move of a block.
+fn move_on(kind: AreaKind, part: &mut [u8])
+    requires { ⌜ formatOf kind .slotSize ≤ length (now part) ⌝ }
+    ensures { λ _. ⌜ now (part .exit) ≡ take (formatOf kind .slotSize) (now (part .entry)) ++ take (length (now (part .entry)) - formatOf kind .slotSize) (now (part .entry)) ⌝ }
+{
+    match kind {
+        AreaKind::Kv => parts::move_up(part, 584),
+        AreaKind::Rbp => parts::move_up(part, 82),
+    }
+}
+
+// The slots of a part one slot back; the first one goes.
+fn move_back(kind: AreaKind, part: &mut [u8])
+    requires { ⌜ formatOf kind .slotSize ≤ length (now part) ⌝ }
+    ensures { λ _. ⌜ now (part .exit) ≡ drop (formatOf kind .slotSize) (now (part .entry)) ++ drop (length (now (part .entry)) - formatOf kind .slotSize) (now (part .entry)) ⌝ }
+{
+    match kind {
+        AreaKind::Kv => parts::move_down(part, 584),
+        AreaKind::Rbp => parts::move_down(part, 82),
+    }
+}
+
+// A new slot in front of those of a part, of which the last one goes.
+fn put_first(kind: AreaKind, part: &mut [u8], name: &[u8], payload: &[u8])
+    requires { ⌜ formatOf kind .slotSize ≤ length (now part) ⌝ }
+    requires { ⌜ (length (now name) ≤ 64) × (length (now payload) ≤ payloadSize (formatOf kind)) ⌝ }
+    ensures { λ _. ⌜ now (part .exit) ≡ makeSlot (formatOf kind) (now (name .entry)) (now (payload .entry)) ++ take (length (now (part .entry)) - formatOf kind .slotSize) (now (part .entry)) ⌝ }
+{
+    move_on(kind, part);
+    let w = slot::slot_size(kind);
+    slot::make_slot(kind, &mut part[0..w], name, payload);
+}
+
+// The first slot of a part taken out, and a free one behind the others.
+fn take_first(kind: AreaKind, part: &mut [u8])
+    requires { ⌜ formatOf kind .slotSize ≤ length (now part) ⌝ }
+    ensures { λ _. ⌜ now (part .exit) ≡ drop (formatOf kind .slotSize) (now (part .entry)) ++ zeros (formatOf kind .slotSize) ⌝ }
+{
+    move_back(kind, part);
+    let end = part.len();
+    let last = end - slot::slot_size(kind);
+    parts::clear(&mut part[last..end]);
+}
+
+// The slot behind the last that an insert writes: the name's own, or the first free one.
+fn insert_end(kind: AreaKind, area: &[u8], found: Found) -> usize
+    requires { ⌜ (sized (formatOf kind) (now area) ≡ true) × (intact (formatOf kind) (now area) ≡ true) × (CanInsert (formatOf kind) (now area) found) ⌝ }
+    ensures { λ r. ⌜ r ≡ insertEnd (formatOf kind) (now (area .entry)) found ⌝ }
+{
+    if found.held {
+        return found.at + 1;
+    }
+    first_free(kind, area) + 1
+}
+
+// 02, No. 7: "A set inserts". The used slots from there on move as one block, over the first free one.
 pub fn insert_at(kind: AreaKind, area: &mut [u8], found: Found, name: &[u8], payload: &[u8])
-    requires { ⌜ (sized (formatOf kind) (now area) ≡ true) × (found .at < slotCount (formatOf kind) (now area)) ⌝ }
+    requires { ⌜ (sized (formatOf kind) (now area) ≡ true) × (intact (formatOf kind) (now area) ≡ true) × (CanInsert (formatOf kind) (now area) found) ⌝ }
     requires { ⌜ (length (now name) ≤ 64) × (length (now payload) ≤ payloadSize (formatOf kind)) ⌝ }
     ensures { λ _. ⌜ now (area .exit) ≡ insertAt (formatOf kind) (now (area .entry)) found (now (name .entry)) (now (payload .entry)) ⌝ }
 {
     let w = slot::slot_size(kind);
     let start = found.at * w;
-    let end = start + w;
-    slot::make_slot(kind, &mut area[start..end], name, payload);
+    let end = insert_end(kind, area, found) * w;
+    put_first(kind, &mut area[start..end], name, payload);
 }
 
-// 01: "the place is zeroed"
+// 02, No. 7: "a remove closes up". The used slots behind it move as one block.
 pub fn erase_at(kind: AreaKind, area: &mut [u8], found: Found)
-    requires { ⌜ (sized (formatOf kind) (now area) ≡ true) × (found .at < slotCount (formatOf kind) (now area)) ⌝ }
+    requires { ⌜ (sized (formatOf kind) (now area) ≡ true) × (intact (formatOf kind) (now area) ≡ true) ⌝ }
+    requires { ⌜ (found .held ≡ true) × (CanRead (formatOf kind) (now area) found) ⌝ }
     ensures { λ _. ⌜ now (area .exit) ≡ eraseAt (formatOf kind) (now (area .entry)) found ⌝ }
 {
     let w = slot::slot_size(kind);
     let start = found.at * w;
-    let end = start + w;
-    parts::clear(&mut area[start..end]);
+    let end = first_free(kind, area) * w;
+    take_first(kind, &mut area[start..end]);
 }
 
 // Whether a slot is used by a name with the prefix.

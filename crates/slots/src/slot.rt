@@ -1,4 +1,4 @@
-// One slot: where its parts stand, whether it is well shaped, who uses it, and how it is written.
+// One slot: where its parts stand, whether it is well shaped, who uses it, what it may stand in front of, and how it is written.
 use crate::AreaKind;
 use crate::names;
 use buffers::compare;
@@ -7,9 +7,11 @@ use buffers::parts;
 ghost use mathlib.Core.Path.{_≡_};
 ghost use mathlib.Core.Bool.{true};
 ghost use mathlib.Core.List.{_++_};
+ghost use mathlib.Core.Option.{some};
 ghost use Prim.Native.Nat.{_≤_};
 ghost use lib.ListN.{length, drop};
-ghost use Rattle.spec.specs.Area.{payloadSize, slotName, slotPayload, slotUsed, slotValid, holds, makeSlot};
+ghost use Rattle.spec.specs.Slots.{inOrder};
+ghost use Rattle.spec.specs.Area.{payloadSize, slotHolder, slotName, slotPayload, slotUsed, slotValid, holds, makeSlot};
 ghost use Rattle.spec.specs.Calls.{hasPrefix, slotHasPrefix};
 ghost use Rattle.slots.specs.Kind.{formatOf};
 
@@ -120,6 +122,29 @@ pub(crate) fn slot_holds(kind: AreaKind, slot: &[u8], name: &[u8]) -> bool
         return false;
     }
     compare::bytes_equal(name, slot_name(kind, slot))
+}
+
+// Whether a slot stands before a name: in byte order, a free one behind all.
+pub(crate) fn slot_precedes(kind: AreaKind, slot: &[u8], name: &[u8]) -> bool
+    requires { ⌜ (length (now slot) ≡ formatOf kind .slotSize) × (slotValid (formatOf kind) (now slot) ≡ true) ⌝ }
+    ensures { λ r. ⌜ r ≡ inOrder (slotHolder (formatOf kind) (now (slot .entry))) (some (now (name .entry))) ⌝ }
+{
+    if slot[0] == 0 {
+        return false;
+    }
+    compare::precedes(slot_name(kind, slot), name)
+}
+
+// 02, No. 7: whether one slot may stand in front of another.
+pub(crate) fn slots_in_order(kind: AreaKind, slot: &[u8], next: &[u8]) -> bool
+    requires { ⌜ (length (now slot) ≡ formatOf kind .slotSize) × (slotValid (formatOf kind) (now slot) ≡ true) ⌝ }
+    requires { ⌜ (length (now next) ≡ formatOf kind .slotSize) × (slotValid (formatOf kind) (now next) ≡ true) ⌝ }
+    ensures { λ r. ⌜ r ≡ inOrder (slotHolder (formatOf kind) (now (slot .entry))) (slotHolder (formatOf kind) (now (next .entry))) ⌝ }
+{
+    if next[0] == 0 {
+        return true;
+    }
+    slot_precedes(kind, slot, slot_name(kind, next))
 }
 
 pub fn has_prefix(name: &[u8], prefix: &[u8]) -> bool

@@ -35,7 +35,7 @@ use Rattle.spec.proofs.Get.{get-exact, info-exact}
 use Rattle.spec.proofs.Set.{flags-split, entry-after}
 use Rattle.spec.proofs.Remove.{remove-exact, remove-done}
 use Rattle.spec.proofs.Lawful.{lawful}
-use Rattle.spec.proofs.Isolation.{applied, own-binding, other-binding}
+use Rattle.spec.proofs.StoreSteps.{applied, own-binding, other-binding}
 
 -- from the exact condition for a get's or an info's 0
 vouched : (kv rbp key name entry : List ℕ) (offset : ℕ) → lookup rbpFormat rbp name ≡ some entry → Readable kv rbp key name offset → Vouched kv key name entry

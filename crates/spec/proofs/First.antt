@@ -1,24 +1,20 @@
 -- The definitions on slots, as a loop over the flat buffer has them: an index, and the bytes from there.
 use mathlib.Core.Path.{_≡_, refl, sym, _∙_}
 use mathlib.Core.Bool.{Bool, true, false}
-use mathlib.Core.List.{List, [], _∷_, _++_}
-use Prim.Native.Nat.{ℕ, zero, suc, _+_, _*_, _<_}
+use mathlib.Core.List.{List, [], _∷_}
+use Prim.Native.Nat.{ℕ, zero, suc, _<_}
 use native.Mathlib.Nat.{not-suc-le-zero, le-of-suc-le-suc}
 use native.Mathlib.Omega.{arith}
 use borrow.Author.Tests.{ltb-true}
 use lib.Dec.{ltb, leb·suc-suc, leb·zero}
-use lib.ListN.{length, take, drop, getD, set, getElem?}
+use lib.ListN.{length, getD, getElem?}
 use Rattle.buffers.specs.Bytes.{any, every}
-use Rattle.spec.specs.Slots.{joinSlots, replaceFirst, firstIndex, findFirst}
+use Rattle.spec.specs.Slots.{firstIndex, findFirst}
 use Rattle.spec.specs.Area.{Format, slotCount, slots}
 use Rattle.buffers.proofs.Split.{split, clash, both}
-use Rattle.spec.proofs.Chunks.{slots-length, join-set}
+use Rattle.spec.proofs.Chunks.{slots-length}
 
 module _ {S : Type 0} where
-  pub replaceFirst-set : (t : S → Bool) (q : S) (ss : List S) → replaceFirst t q ss ≡ set ss (firstIndex t ss) q
-  replaceFirst-set t q [] = refl
-  replaceFirst-set t q (s ∷ ss) = split (t s) (λ e. simp e) (λ e. simp (e, replaceFirst-set t q ss))
-
   pub any-first : (t : S → Bool) (ss : List S) → any t ss ≡ ltb (firstIndex t ss) (length ss)
   any-first t [] = refl
   any-first t (s ∷ ss) = split (t s) (λ e. rw (e, leb·suc-suc 0 (length ss), leb·zero)) (λ e. rw (e, leb·suc-suc) (any-first t ss))
@@ -58,9 +54,3 @@ module _ {S : Type 0} where
 -- a slot that passes is found within the area
 pub first-in-range : (F : Format) (t : List ℕ → Bool) (l : List ℕ) → any t (slots F l) ≡ true → firstIndex t (slots F l) < slotCount F l
 first-in-range F t l k = rw (slots-length F l) at (first-below t (slots F l) k)
-
--- What an edit of an area is, in bytes: the slot at the index that a loop finds, written over.
-pub splice : (F : Format) (t : List ℕ → Bool) (q l : List ℕ) → length l ≡ slotCount F l * F .slotSize → any t (slots F l) ≡ true
-    → let at = firstIndex t (slots F l) * F .slotSize in
-    joinSlots (replaceFirst t q (slots F l)) ≡ take at l ++ (q ++ drop (at + F .slotSize) l)
-splice F t q l h k = rw replaceFirst-set (join-set (F .slotSize) (slotCount F l) (firstIndex t (slots F l)) l q h (first-in-range F t l k))

@@ -11,9 +11,9 @@ use Rattle.spec.specs.Record.{validFlags, metadata, wellFormed, sealedIv
 use Rattle.spec.specs.Slots.{member}
 use Rattle.spec.specs.Area.{slotFree, slotUsed, slotValid, slotHolder, sized, intact}
 use Rattle.spec.specs.Decisions.{setHeld, setEffect, getHeld, readCount, readOutput, removeHeld}
-use Rattle.spec.specs.Interleaving.{lefts, rights}
+use Rattle.spec.specs.Interleaving.{Interleaving, lefts, rights}
 use Rattle.spec.specs.Model.{callName}
-use Rattle.spec.specs.Demand3.{IsolationPremise, Isolated, calls, Instance}
+use Rattle.spec.specs.Demand3.{IsolationPremise, Isolated, calls, inTurn, Instance}
 use Rattle.buffers.proofs.Split.{clash, both, not-true-is}
 use Rattle.spec.proofs.NameLists.{in-member}
 use Rattle.spec.proofs.Isolation.{client-isolation}
@@ -36,8 +36,17 @@ premise = record {
 isolated : Isolated (replicate 1168 0) (replicate 164 0) (lefts calls) (rights calls) calls
 isolated = client-isolation _ _ (lefts calls) (rights calls) calls (record { left = refl; right = refl }) premise
 
+one-after-other : Interleaving (lefts calls) (rights calls) inTurn
+one-after-other = record { left = refl; right = refl }
+
 -- what the model answers to each client alone
 pub instance : Instance
 unfolding refuseIf onOk slotFree slotHolder validName validNameByte validFlags setHeld setEffect sealRecord metadata sealedIv sealedData sealedTag
     getHeld wellFormed readCount readOutput plaintext removeHeld
-instance = record { premise = premise; left-replies = isolated .left-answers; right-replies = isolated .right-answers }
+instance = record {
+  premise = premise;
+  left-replies = isolated .left-answers;
+  right-replies = isolated .right-answers;
+  merged = (record { left = refl; right = refl }, one-after-other);
+  same-bytes = isolated .same-bytes inTurn one-after-other;
+}

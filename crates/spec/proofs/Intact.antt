@@ -10,14 +10,15 @@ use native.Mathlib.Omega.{arith}
 use lib.ListN.{length, getD}
 use Rattle.buffers.specs.Bytes.{any}
 use Rattle.spec.specs.Name.{Name}
-use Rattle.spec.specs.Slots.{firstIndex, findFirst}
-use Rattle.spec.specs.Area.{Format, slotValid, slotHolder, holds, slotCount, slots, intact, slotOf, lookup}
-use Rattle.spec.specs.Shapes.{slotAt, NoDamage, SlotHeld, LookupShape}
+use Rattle.spec.specs.Slots.{findFirst, inOrder, sortedBy}
+use Rattle.spec.specs.Area.{Format, slotFree, slotValid, slotHolder, holds, slotCount, slots, intact, slotOf, lookup}
+use Rattle.spec.specs.Shapes.{slotAt, NoDamage, Once, SlotHeld, LookupShape}
 use Rattle.buffers.proofs.Split.{split, splitO, clash, clashO}
-use Rattle.spec.proofs.Slots.{held, held-at, at-held, find-any, Absent, Distinct, of-distinct}
+use Rattle.spec.proofs.Slots.{held, held-at, at-held, find-any, Absent, Distinct}
+use Rattle.spec.proofs.Sorted.{sorted-cons}
 use Rattle.spec.proofs.Chunks.{slots-length, slot-at}
-use Rattle.spec.proofs.First.{any-at, first-below, first-passes, every-index, index-every}
-use Rattle.spec.proofs.Area.{intact-valid, intact-distinct}
+use Rattle.spec.proofs.First.{any-at, every-index, index-every}
+use Rattle.spec.proofs.Area.{intact-valid, intact-sorted, intact-distinct, free-holder, used-holder}
 
 module _ {S : Type 0} (d : S) where
   -- no element before the index passes
@@ -49,29 +50,34 @@ module _ {S : Type 0} (d : S) where
     not-at n ss j h k e = clash (any (held at n) ss) (any-at (held at n) ss d j k (at-held at n (getD ss j d) e)) (sym (find-any (held at n) ss) ∙ rw h)
 
     -- no name is at two indices
-    Once : List S → Type 0
-    Once ss = (i j : ℕ) (n : Name) → i < length ss → j < length ss → at (getD ss i d) ≡ some n → at (getD ss j d) ≡ some n → i ≡ j
+    Alone : List S → Type 0
+    Alone ss = (i j : ℕ) (n : Name) → i < length ss → j < length ss → at (getD ss i d) ≡ some n → at (getD ss j d) ≡ some n → i ≡ j
 
-    once-of : (ss : List S) → Distinct at ss → Once ss
-    unfolding Once
+    once-of : (ss : List S) → Distinct at ss → Alone ss
+    unfolding Alone
     once-of [] h i j n k l e f = absurd (not-suc-le-zero k)
     once-of (s ∷ ss) h zero zero n k l e f = refl
     once-of (s ∷ ss) h zero (suc j) n k l e f = absurd (not-at n ss j (h .0 n (at-held at n s e)) (le-of-suc-le-suc l) f)
     once-of (s ∷ ss) h (suc i) zero n k l e f = absurd (not-at n ss i (h .0 n (at-held at n s f)) (le-of-suc-le-suc k) e)
     once-of (s ∷ ss) h (suc i) (suc j) n k l e f = ap suc (once-of ss (h .1) i j n (le-of-suc-le-suc k) (le-of-suc-le-suc l) e f)
 
-    of-once : (ss : List S) → Once ss → Distinct at ss
-    unfolding Once
-    of-once [] h = tt
-    of-once (s ∷ ss) h = (alone, of-once ss (λ i j n k l e f. let z = h (suc i) (suc j) n (omega arith) (omega arith) e f in omega arith))
-      where
-        alone : (n : Name) → held at n s ≡ true → Absent at n ss
-        alone n k = splitO (findFirst (held at n) ss) (λ e. e) (λ r e.
-            let a : any (held at n) ss ≡ true = sym (find-any (held at n) ss) ∙ rw e in
-            let p = held-at at n _ (first-passes (held at n) ss d a) in
-            let q = first-below (held at n) ss a in
-            let z = h 0 (suc (firstIndex (held at n) ss)) n (omega arith) (omega arith) (held-at at n s k) p in
-            absurd (omega arith))
+    -- in order, by index
+    Ordered : List S → Type 0
+    Ordered ss = (i j : ℕ) → i < j → j < length ss → inOrder (at (getD ss i d)) (at (getD ss j d)) ≡ true
+
+    ordered-of : (ss : List S) → sortedBy at ss ≡ true → Ordered ss
+    unfolding Ordered
+    ordered-of [] h i j l k = absurd (not-suc-le-zero k)
+    ordered-of (s ∷ ss) h i zero l k = absurd (not-suc-le-zero l)
+    ordered-of (s ∷ ss) h zero (suc j) l k = every-index (λ y. inOrder (at s) (at y)) ss d (sorted-cons at s ss h .0) j (le-of-suc-le-suc k)
+    ordered-of (s ∷ ss) h (suc i) (suc j) l k = ordered-of ss (sorted-cons at s ss h .1) i j (le-of-suc-le-suc l) (le-of-suc-le-suc k)
+
+    of-ordered : (ss : List S) → Ordered ss → sortedBy at ss ≡ true
+    unfolding Ordered
+    of-ordered [] h = refl
+    of-ordered (s ∷ ss) h =
+        let first = index-every (λ y. inOrder (at s) (at y)) ss d (λ j k. h 0 (suc j) (omega arith) (omega arith)) in
+        rw (first, of-ordered ss (λ i j l k. h (suc i) (suc j) (omega arith) (omega arith)))
 
 module _ (F : Format) (area : List ℕ) where
   at-is : (i : ℕ) → i < slotCount F area → getD (slots F area) i [] ≡ slotAt F area i
@@ -94,22 +100,39 @@ module _ (F : Format) (area : List ℕ) where
   of-either false b (inr h) = h
 
   no-damage : intact F area ≡ true → NoDamage F area
-  unfolding slotValid Once
+  unfolding slotValid Ordered slotHolder
   no-damage h =
       let valid = every-index (slotValid F) (slots F area) [] (intact-valid F area h) in
-      let once = once-of [] (slotHolder F) (slots F area) (intact-distinct F area h) in
+      let order = ordered-of [] (slotHolder F) (slots F area) (intact-sorted F area h) in
+      let at : (i j : ℕ) → i < j → j < slotCount F area → inOrder (slotHolder F (slotAt F area i)) (slotHolder F (slotAt F area j)) ≡ true = λ i j l k.
+      rw (← (at-is i (omega arith)), ← (at-is j k)) (order i j l (listed k)) in
       record {
         shaped = λ i k. either-of _ _ (rw (at-is i k) at (valid i (listed k)));
-        once = λ i j n k l e f. once i j n (listed k) (listed l) (rw (at-is i k) e) (rw (at-is j l) f);
+        front = λ i j l k e. split (slotFree (slotAt F area j)) (λ f. f) (λ f. clash false (rw (e, f) at (at i j l k)) refl);
+        ordered = λ i j n m l k e f. rw (e, f) at (at i j l k);
       }
 
   undamaged : NoDamage F area → intact F area ≡ true
-  unfolding intact slotValid Once
+  unfolding intact slotValid Ordered
   undamaged h =
       let valid = index-every (slotValid F) (slots F area) [] (λ i k. rw (at-is i (in-area k)) (of-either _ _ (h .shaped i (in-area k)))) in
-      let once = of-once [] (slotHolder F) (slots F area)
-      (λ i j n k l e f. h .once i j n (in-area k) (in-area l) (rw (at-is i (in-area k)) at e) (rw (at-is j (in-area l)) at f)) in
-      rw (valid, of-distinct (slotHolder F) (slots F area) once)
+      let sorted = of-ordered [] (slotHolder F) (slots F area)
+      (λ i j l k. rw (at-is i (omega (arith, in-area k)), at-is j (in-area k)) (in-order i j l (in-area k))) in
+      rw (valid, sorted)
+    where
+      in-order : (i j : ℕ) → i < j → j < slotCount F area → inOrder (slotHolder F (slotAt F area i)) (slotHolder F (slotAt F area j)) ≡ true
+      in-order i j l k = splitO (slotHolder F (slotAt F area j))
+          (λ f. rw f)
+          (λ m f. splitO (slotHolder F (slotAt F area i))
+          (λ e. split (slotFree (slotAt F area i))
+          (λ z. clashO (slotHolder F (slotAt F area j)) (free-holder F (slotAt F area j) (h .front i j l k z)) f)
+          (λ z. absurd (used-holder F (slotAt F area i) z e)))
+          (λ n e. rw (e, f) (h .ordered i j n m l k e f)))
+
+  pub no-name-twice : intact F area ≡ true → Once F area
+  unfolding Alone
+  no-name-twice h i j n k l e f =
+      once-of [] (slotHolder F) (slots F area) (intact-distinct F area h) i j n (listed k) (listed l) (rw (at-is i k) e) (rw (at-is j l) f)
 
   -- ---- the slot of a name
 

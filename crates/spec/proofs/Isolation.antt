@@ -1,139 +1,49 @@
 -- Demand 3: the store's world agrees with the reference model's, and whole lists follow.
 use mathlib.Core.Path.{_≡_, refl, sym, ap, _∙_}
-use mathlib.Core.Logic.{_≢_}
 use mathlib.Core.Bool.{Bool, true, false}
-use mathlib.Core.List.{List, _∷_, _++_, flatten, List·Memᴰ, List·Memᴰ·head, List·Memᴰ·tail, Memᴰ·append-left, Memᴰ·append-right}
-use mathlib.Core.Option.{Option}
+use mathlib.Core.List.{List, _∷_, _++_, map, flatten, List·Memᴰ, List·Memᴰ·head, List·Memᴰ·tail, Memᴰ·append-left, Memᴰ·append-right}
 use Prim.Native.Nat.{ℕ, _≤_}
 use lib.ListN.{length}
-use Rattle.spec.specs.Status.{ok, firstOf}
 use Rattle.spec.specs.Name.{Name}
-use Rattle.spec.specs.Slots.{dedup}
-use Rattle.spec.specs.Area.{Format, kvFormat, rbpFormat, slotHolder, slotCount, slots, names}
-use Rattle.spec.specs.Request.{Binding, Effect, Request, found, statusOf}
-use Rattle.spec.specs.Calls.{Areas, areas, bindingOf, roomOf, storeWorld}
+use Rattle.spec.specs.Slots.{dedup, member}
+use Rattle.spec.specs.Area.{Format, kvFormat, rbpFormat, slotHolder, slotCount, slots, slotOf, names}
+use Rattle.spec.specs.Calls.{Areas, areas, bindingOf, storeWorld}
 use Rattle.spec.specs.Interleaving.{Side, left, right, isSide, Tagged, by, part, Interleaving, answers, final, sharedStep}
 use Rattle.spec.specs.Model.{Call, requestOf, callName, modelOf, modelBinding, modelWorld, modelStep, storeStep}
 use Rattle.spec.specs.Demand3.{Names, namesWhere, isSet, isProtectedSet, IsolationPremise, Isolated, ClientIsolation, atEnd}
 use Rattle.buffers.proofs.Split.{split, clash}
-use Rattle.spec.proofs.NameLists.{dedup-in}
+use Rattle.spec.proofs.NameLists.{member-in, in-member, dedup-in}
 use Rattle.spec.proofs.Slots.{find-in}
-use Rattle.spec.proofs.Slot.{kv-laws, rbp-laws}
-use Rattle.spec.proofs.Area.{Sound, GoodEdit, WhenWritten, when-map, HasRoom, Roomy, roomy-space}
-use Rattle.spec.proofs.Area.{edit-sound, edit-length, edit-roomy, lookup-edit, lookup-edit-other}
-use Rattle.spec.proofs.World.{kv-sound-of, rbp-sound-of, both-sound, Sane, accepted, own-tests}
-use Rattle.spec.proofs.Interleaving.{each-in, part-in, part-none, side-other, alone}
+use Rattle.spec.proofs.Area.{Roomy}
+use Rattle.spec.proofs.Images.{by-slots}
+use Rattle.spec.proofs.World.{kv-sound-of, rbp-sound-of, both-sound}
+use Rattle.spec.proofs.Interleaving.{Each, each-in, part-in, part-none, side-other, alone}
 use Rattle.spec.proofs.Model.{table-same, table-other, model-start}
-use Rattle.spec.proofs.Worlds.{Agreeing, edited, separate}
-use Rattle.spec.proofs.Lawful.{Lawful, lawful, enough}
-
-pub binding-eq : {o t : Option (List ℕ)} {b : Binding} → o ≡ b .stored → t ≡ b .tag → record { stored = o; tag = t } ≡ b
-binding-eq p q = λ i. record { stored = p i; tag = q i }
+use Rattle.spec.proofs.Worlds.{Agreeing, separate}
+use Rattle.spec.proofs.Lawful.{lawful}
+use Rattle.spec.proofs.StoreSteps.{binding-eq, applied, own-binding, other-binding, Ok, Allowed, keeps, status-is}
+use Rattle.spec.proofs.SameSlots.{beside-itself}
 
 start-roomy : (F : Format) (u : List Name) (area : List ℕ) → ((n : Name) → List·Memᴰ n (names F area) → List·Memᴰ n u) → length u ≤ slotCount F area
     → Roomy F u area
 start-roomy F u area w e = record { within = λ m r k. w m (find-in (slotHolder F) m (slots F area) r k); enough = e }
 
--- ---- an accepted request, in the store
+-- a name has the same slots in both
+abbrev SlotsAs : Areas → Areas → Name → Type 0
+SlotsAs s m n = (slotOf kvFormat (s .kv) n ≡ slotOf kvFormat (m .kv) n) × (slotOf rbpFormat (s .rbp) n ≡ slotOf rbpFormat (m .rbp) n)
 
--- what it has found, and what its effect may do
-module _ (s : Areas) (q : Request) (L : Lawful q) where
-  abbrev b : Binding
-  b = found storeWorld s q
-
-  abbrev e : Effect
-  e = q .effect b
-
-  pub record Applied : Type 0 where
-    pub undamaged : Sane s
-    pub kv-sound : Sound kvFormat (s .kv)
-    pub rbp-sound : Sound rbpFormat (s .rbp)
-    pub kv-good : GoodEdit kvFormat (q .name) (e .kv)
-    pub rbp-good : GoodEdit rbpFormat (q .name) (e .rbp)
-    pub kv-needs : WhenWritten (e .kv) ((q .puts .kv ≡ true) × HasRoom kvFormat (s .kv) (q .name))
-    pub rbp-needs : WhenWritten (e .rbp) ((q .puts .rbp ≡ true) × HasRoom rbpFormat (s .rbp) (q .name))
-
-  pub applied : statusOf storeWorld s q ≡ ok → Applied
-  applied h =
-      let a = accepted s (q .early) (q .tests b (roomOf (s .kv) (s .rbp))) (L .numbered s b (roomOf (s .kv) (s .rbp))) h in
-      let u = a .undamaged in
-      let g = L .good b (roomOf (s .kv) (s .rbp)) (a .lengths) (a .rest) in
-      let n = L .needs b (roomOf (s .kv) (s .rbp)) (a .lengths) (a .rest) in
-      record {
-        undamaged = u;
-        kv-sound = kv-sound-of u;
-        rbp-sound = rbp-sound-of u;
-        kv-good = g .0;
-        rbp-good = g .1;
-        kv-needs = n .0;
-        rbp-needs = n .1;
-      }
-
-  module _ (a : Applied) where
-    pub own-binding : bindingOf (storeWorld .edit s (q .name) e .kv) (storeWorld .edit s (q .name) e .rbp) (q .name) ≡ edited e b
-    own-binding = binding-eq
-        (lookup-edit kvFormat kv-laws (s .kv) (q .name) (e .kv) (a .kv-sound) (a .kv-good) (when-map (e .kv) (λ n. n .1) (a .kv-needs)))
-        (lookup-edit rbpFormat rbp-laws (s .rbp) (q .name) (e .rbp) (a .rbp-sound) (a .rbp-good) (when-map (e .rbp) (λ n. n .1) (a .rbp-needs)))
-
-    pub other-binding : (n : Name) → n ≢ q .name
-        → bindingOf (storeWorld .edit s (q .name) e .kv) (storeWorld .edit s (q .name) e .rbp) n ≡ bindingOf (s .kv) (s .rbp) n
-    other-binding n h = binding-eq
-        (lookup-edit-other kvFormat kv-laws (s .kv) n (q .name) (e .kv) (a .kv-sound) (a .kv-good) h)
-        (lookup-edit-other rbpFormat rbp-laws (s .rbp) n (q .name) (e .rbp) (a .rbp-sound) (a .rbp-good) h)
+through : (s t m : Areas) (n : Name) → SlotsAs s m n → SlotsAs t m n → SlotsAs s t n
+through s t m n a b = (a .0 ∙ sym (b .0), a .1 ∙ sym (b .1))
 
 -- ---- the store beside the model, for the clients of a test and the names that are theirs
 
 module _ (u v : List Name) (kvSize rbpSize : ℕ) (mine : Side → Bool) (Mine : Name → Type 0) where
-  record Ok (s : Areas) : Type 0 where
-    kv-sound : Sound kvFormat (s .kv)
-    rbp-sound : Sound rbpFormat (s .rbp)
-    kv-roomy : Roomy kvFormat u (s .kv)
-    rbp-roomy : Roomy rbpFormat v (s .rbp)
-    kv-length : length (s .kv) ≡ kvSize
-    rbp-length : length (s .rbp) ≡ rbpSize
-
-  record Allowed (d : Side) (c : Call) : Type 0 where
-    ours : mine d ≡ true → Mine (callName c)
-    others : mine d ≡ false → ¬ Mine (callName c)
-    kv-listed : isSet c ≡ true → List·Memᴰ (callName c) u
-    rbp-listed : isProtectedSet c ≡ true → List·Memᴰ (callName c) v
-
-  module _ (s : Areas) (c : Call) (d : Side) (a : Allowed d c) (o : Ok s) where
-    abbrev q : Request
-    q = requestOf c
-
-    keeps : statusOf storeWorld s q ≡ ok → Ok (storeWorld .edit s (q .name) (q .effect (found storeWorld s q)))
-    keeps h =
-        let p = applied s q (lawful c) h in
-        let x = q .effect (found storeWorld s q) in
-        record {
-          kv-sound = edit-sound kvFormat kv-laws (s .kv) (q .name) (x .kv) (o .kv-sound) (p .kv-good);
-          rbp-sound = edit-sound rbpFormat rbp-laws (s .rbp) (q .name) (x .rbp) (o .rbp-sound) (p .rbp-good);
-          kv-roomy = edit-roomy kvFormat kv-laws u (s .kv) (q .name) (x .kv) (o .kv-sound) (p .kv-good) (o .kv-roomy)
-              (when-map (x .kv) (λ n. a .kv-listed (n .0)) (p .kv-needs));
-          rbp-roomy = edit-roomy rbpFormat rbp-laws v (s .rbp) (q .name) (x .rbp) (o .rbp-sound) (p .rbp-good) (o .rbp-roomy)
-              (when-map (x .rbp) (λ n. a .rbp-listed (n .0)) (p .rbp-needs));
-          kv-length = edit-length kvFormat kv-laws (s .kv) (q .name) (x .kv) (o .kv-sound) (p .kv-good) ∙ o .kv-length;
-          rbp-length = edit-length rbpFormat rbp-laws (s .rbp) (q .name) (x .rbp) (o .rbp-sound) (p .rbp-good) ∙ o .rbp-length;
-        }
-
-    -- the areas are sound and there is room, so the status is decided by what the name has alone
-    status-is : statusOf storeWorld s q ≡ firstOf (q .early ++ q .tests (found storeWorld s q) enough)
-    status-is =
-        let sane : Sane s = both-sound (o .kv-sound) (o .rbp-sound) in
-        let b = found storeWorld s q in
-        let tests = q .tests b (roomOf (s .kv) (s .rbp)) in
-        own-tests s (q .early) tests sane
-        ∙ lawful c .roomless b (roomOf (s .kv) (s .rbp))
-        (λ i. roomy-space kvFormat u (s .kv) (callName c) (o .kv-sound) (o .kv-roomy) (a .kv-listed i))
-        (λ i. roomy-space rbpFormat v (s .rbp) (callName c) (o .rbp-sound) (o .rbp-roomy) (a .rbp-listed i))
-
-  agreeing : Agreeing storeWorld modelWorld requestOf mine Mine Ok Allowed
+  agreeing : Agreeing storeWorld modelWorld requestOf mine Mine (Ok u v kvSize rbpSize) (Allowed u v kvSize rbpSize mine Mine)
   agreeing = record {
     ours = λ d c a. a .ours;
     others = λ d c a. a .others;
-    same-status = λ d s m c a i o g. status-is s c d a o ∙ rw (g (callName c) (a .ours i));
-    keeps = λ d s c a o h. keeps s c d a o h;
+    same-status = λ d s m c a i o g. status-is u v kvSize rbpSize mine Mine s c d a o ∙ rw (g (callName c) (a .ours i));
+    keeps = λ d s c a o h. keeps u v kvSize rbpSize mine Mine s c d a o h;
     own = λ d s c a o h. own-binding s (requestOf c) (lawful c) (applied s (requestOf c) (lawful c) h);
     other = λ d s c a o h. other-binding s (requestOf c) (lawful c) (applied s (requestOf c) (lawful c) h);
     model-own = λ m n e. binding-eq (table-same (m .records) n (e .kv)) (table-same (m .tags) n (e .rbp));
@@ -186,7 +96,7 @@ module _ (kv rbp : List ℕ) (ls rs : List Call) (l : List (Tagged Call)) (w : I
       (ours : (d : Side) (c : Call) → List·Memᴰ (by d c) l → mine d ≡ true → Mine (callName c))
       (others : (d : Side) (c : Call) → List·Memᴰ (by d c) l → mine d ≡ false → ¬ Mine (callName c)) where
     abbrev OkHere : Areas → Type 0
-    OkHere = Ok kvAsked rbpAsked (length kv) (length rbp) mine Mine
+    OkHere = Ok kvAsked rbpAsked (length kv) (length rbp)
 
     abbrev own : List Call
     own = part mine l
@@ -201,31 +111,107 @@ module _ (kv rbp : List ℕ) (ls rs : List Call) (l : List (Tagged Call)) (w : I
       rbp-length = refl;
     }
 
+    allowed : Each (Allowed kvAsked rbpAsked (length kv) (length rbp) mine Mine) l
+    allowed = each-in _ l (λ d c m. record {
+      ours = ours d c m;
+      others = others d c m;
+      kv-listed = asked-call kvFormat kv isSet d c m;
+      rbp-listed = asked-call rbpFormat rbp isProtectedSet d c m;
+    })
+
     seen : (part mine (answers (sharedStep storeStep) (areas kv rbp) l) ≡ answers modelStep (modelOf kv rbp) own)
         × ((n : Name) → Mine n → bindingOf (end .kv) (end .rbp) n ≡ modelBinding (final modelStep (modelOf kv rbp) own) n)
         × OkHere end
     seen = alone storeStep modelStep mine _ _ _
         (separate storeWorld modelWorld requestOf mine Mine _ _ (agreeing kvAsked rbpAsked (length kv) (length rbp) mine Mine))
-        (areas kv rbp) (modelOf kv rbp) l
-        (each-in _ l (λ d c m. record {
-          ours = ours d c m;
-          others = others d c m;
-          kv-listed = asked-call kvFormat kv isSet d c m;
-          rbp-listed = asked-call rbpFormat rbp isProtectedSet d c m;
-        })) ok-start (λ n j. model-start kv rbp n)
+        (areas kv rbp) (modelOf kv rbp) l allowed ok-start (λ n j. model-start kv rbp n)
+
+    -- their slots at the end are those that their own calls leave
+    kept : (n : Name) → Mine n → SlotsAs end (final storeStep (areas kv rbp) own) n
+    kept n j =
+        let a = alone storeStep storeStep mine _ _ _ (beside-itself kvAsked rbpAsked (length kv) (length rbp) mine Mine)
+        (areas kv rbp) (areas kv rbp) l allowed ok-start (record { fine = ok-start; kv = λ m k. refl; rbp = λ m k. refl }) in
+        (a .1 .kv n j, a .1 .rbp n j)
 
   side-left : (d : Side) → isSide right d ≡ false → isSide left d ≡ true
   side-left left h = refl
   side-left right h = sym h
 
+  -- the names of either client, and those of neither
+  left-ours : (d : Side) (c : Call) → List·Memᴰ (by d c) l → isSide left d ≡ true → Names ls (callName c)
+  left-ours d c m e = name-in c ls (of-left d c m e)
+
+  left-others : (d : Side) (c : Call) → List·Memᴰ (by d c) l → isSide left d ≡ false → ¬ Names ls (callName c)
+  left-others d c m e z = p .no-shared-name (callName c) z (name-in c rs (of-right d c m (side-other d e)))
+
+  right-ours : (d : Side) (c : Call) → List·Memᴰ (by d c) l → isSide right d ≡ true → Names rs (callName c)
+  right-ours d c m e = name-in c rs (of-right d c m e)
+
+  right-others : (d : Side) (c : Call) → List·Memᴰ (by d c) l → isSide right d ≡ false → ¬ Names rs (callName c)
+  right-others d c m e z = p .no-shared-name (callName c) (name-in c ls (of-left d c m (side-left d e))) z
+
+  abbrev Neither : Name → Type 0
+  Neither n = (¬ Names ls n) × (¬ Names rs n)
+
+  none-ours : (d : Side) (c : Call) → List·Memᴰ (by d c) l → false ≡ true → Neither (callName c)
+  none-ours d c m e = clash false e refl
+
+  none-others : (d : Side) (c : Call) → List·Memᴰ (by d c) l → false ≡ false → ¬ Neither (callName c)
+  none-others d c m e z = split (isSide left d)
+      (λ h. z .0 (name-in c ls (of-left d c m h)))
+      (λ h. z .1 (name-in c rs (of-right d c m (side-other d h))))
+
+  end-ok : Ok kvAsked rbpAsked (length kv) (length rbp) end
+  end-ok = seen (isSide left) (Names ls) left-ours left-others .2
+
+  -- the slots at the end, however the lists are merged
+  left-slots : (n : Name) → Names ls n → SlotsAs end (final storeStep (areas kv rbp) ls) n
+  left-slots n j = rw (w .left) at (kept (isSide left) (Names ls) left-ours left-others n j)
+
+  right-slots : (n : Name) → Names rs n → SlotsAs end (final storeStep (areas kv rbp) rs) n
+  right-slots n j = rw (w .right) at (kept (isSide right) (Names rs) right-ours right-others n j)
+
+  other-slots : (n : Name) → Neither n → SlotsAs end (areas kv rbp) n
+  other-slots n j = rw (part-none l) at (kept (λ d. false) Neither none-ours none-others n j)
+
+-- ---- two merges
+
+module _ (kv rbp : List ℕ) (ls rs : List Call) (p : IsolationPremise kv rbp ls rs) (l l′ : List (Tagged Call))
+    (w : Interleaving ls rs l) (w′ : Interleaving ls rs l′) where
+  abbrev this : Areas
+  this = end kv rbp ls rs l w p
+
+  abbrev that : Areas
+  that = end kv rbp ls rs l′ w′ p
+
+  one-slot : (n : Name) → SlotsAs that this n
+  one-slot n = split (member n (map callName ls))
+      (λ e.
+      let j = member-in n (map callName ls) e in
+      through that this (final storeStep (areas kv rbp) ls) n (left-slots kv rbp ls rs l′ w′ p n j) (left-slots kv rbp ls rs l w p n j))
+      (λ e. split (member n (map callName rs))
+      (λ f.
+      let j = member-in n (map callName rs) f in
+      through that this (final storeStep (areas kv rbp) rs) n (right-slots kv rbp ls rs l′ w′ p n j) (right-slots kv rbp ls rs l w p n j))
+      (λ f.
+      let j : Neither kv rbp ls rs l w p n =
+      ((λ z. clash (member n (map callName ls)) (in-member n _ z) e), (λ z. clash (member n (map callName rs)) (in-member n _ z) f)) in
+      through that this (areas kv rbp) n (other-slots kv rbp ls rs l′ w′ p n j) (other-slots kv rbp ls rs l w p n j)))
+
+  same-bytes : that ≡ this
+  same-bytes =
+      let o = end-ok kv rbp ls rs l w p in
+      let o′ = end-ok kv rbp ls rs l′ w′ p in
+      let k = by-slots kvFormat (that .kv) (this .kv) (o′ .kv-sound) (o .kv-sound) (o′ .kv-length ∙ sym (o .kv-length)) (λ n. one-slot n .0) in
+      let r = by-slots rbpFormat (that .rbp) (this .rbp) (o′ .rbp-sound) (o .rbp-sound) (o′ .rbp-length ∙ sym (o .rbp-length)) (λ n. one-slot n .1) in
+      λ i. areas (k i) (r i)
+
+module _ (kv rbp : List ℕ) (ls rs : List Call) (l : List (Tagged Call)) (w : Interleaving ls rs l) (p : IsolationPremise kv rbp ls rs) where
   isolated : Isolated kv rbp ls rs l
   isolated =
-      let a = seen (isSide left) (Names ls) (λ d c m e. name-in c ls (of-left d c m e))
-      (λ d c m e z. p .no-shared-name (callName c) z (name-in c rs (of-right d c m (side-other d e)))) in
-      let b = seen (isSide right) (Names rs) (λ d c m e. name-in c rs (of-right d c m e))
-      (λ d c m e z. p .no-shared-name (callName c) (name-in c ls (of-left d c m (side-left d e))) z) in
-      let o = seen (λ d. false) (λ n. (¬ Names ls n) × (¬ Names rs n)) (λ d c m e. clash false e refl)
-      (λ d c m e z. split (isSide left d) (λ h. z .0 (name-in c ls (of-left d c m h))) (λ h. z .1 (name-in c rs (of-right d c m (side-other d h))))) in
+      let a = seen kv rbp ls rs l w p (isSide left) (Names ls) (left-ours kv rbp ls rs l w p) (left-others kv rbp ls rs l w p) in
+      let b = seen kv rbp ls rs l w p (isSide right) (Names rs) (right-ours kv rbp ls rs l w p) (right-others kv rbp ls rs l w p) in
+      let o = seen kv rbp ls rs l w p (λ d. false) (Neither kv rbp ls rs l w p) (none-ours kv rbp ls rs l w p) (none-others kv rbp ls rs l w p) in
       record {
         left-answers = rw (w .left) at (a .0);
         right-answers = rw (w .right) at (b .0);
@@ -235,6 +221,7 @@ module _ (kv rbp : List ℕ) (ls rs : List Call) (l : List (Tagged Call)) (w : I
         undamaged = both-sound (a .2 .kv-sound) (a .2 .rbp-sound);
         kv-length = a .2 .kv-length;
         rbp-length = a .2 .rbp-length;
+        same-bytes = λ l′ w′. same-bytes kv rbp ls rs p l l′ w w′;
       }
 
 pub client-isolation : ClientIsolation

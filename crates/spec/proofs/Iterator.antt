@@ -8,18 +8,20 @@ use native.Mathlib.Omega.{arith}
 use borrow.Author.Tests.{ltb-true, ltb-false, lt-ltb, leb-true, le-leb}
 use lib.Dec.{ltb, leb}
 use lib.ListN.{length, getD, take, drop, length-drop}
-use lib.Seq.{getD-drop}
+use lib.Seq.{getD-drop, take-append-seam}
 use Rattle.buffers.specs.Bytes.{any}
-use Rattle.spec.specs.Status.{ok, Test, _when_, firstOf, onOk}
+use Rattle.buffers.specs.Compare.{precedes}
+use Rattle.spec.specs.Status.{ok, Test, _when_, firstOf, onOk, bytesGiven}
 use Rattle.spec.specs.Name.{Name, validPrefix}
 use Rattle.spec.specs.Slots.{firstIndex}
 use Rattle.spec.specs.Area.{kvFormat, slotHolder, slotCount, slots}
 use Rattle.spec.specs.Calls.{areas, nameHasPrefix, slotHasPrefix, nextMatch, iteratorTests, storeIteratorNext}
-use Rattle.spec.specs.Demand2.{done, Match, Iterable, IteratorExact}
+use Rattle.spec.specs.Demand2.{done, Match, Iterable, IteratorExact, WalkInOrder}
 use Rattle.buffers.proofs.Split.{split, clash, not-false-is}
 use Rattle.buffers.proofs.Bytes.{bytesEq-eq, eq-bytesEq}
-use Rattle.spec.proofs.Chunks.{slots-length}
+use Rattle.spec.proofs.Chunks.{slots-length, slot-at}
 use Rattle.spec.proofs.First.{any-first, any-at, first-below, first-passes, first-lowest}
+use Rattle.spec.proofs.Intact.{intact-shape}
 use Rattle.spec.proofs.World.{accepted, acceptable}
 
 -- ---- the test of a slot
@@ -157,3 +159,24 @@ iterator-exact kv rbp prefix start nameBuf = record {
   condition = (iterable kv rbp prefix start nameBuf, iterable-ok kv rbp prefix start nameBuf);
   gives = iterated kv rbp prefix start nameBuf;
 }
+
+-- a later match stands behind an earlier one
+later-greater : (kv rbp prefix : List ℕ) (start : ℕ) (nameBuf prefix′ : List ℕ) (start′ : ℕ) (nameBuf′ : List ℕ)
+    → (h : Iterable kv rbp prefix start nameBuf) (h′ : Iterable kv rbp prefix′ start′ nameBuf′) → h .i < start′ → precedes (h .name) (h′ .name) ≡ true
+later-greater kv rbp prefix start nameBuf prefix′ start′ nameBuf′ h h′ l =
+    let m = h .found in
+    let m′ = h′ .found in
+    let k : h .i < h′ .i = omega (arith, m′ .from-start) in
+    intact-shape kvFormat kv .0 (h .undamaged .kv-intact) .ordered (h .i) (h′ .i) (h .name) (h′ .name) k (m′ .in-range)
+    (rw (slot-at kvFormat kv (h .i) (m .in-range)) at (m .held)) (rw (slot-at kvFormat kv (h′ .i) (m′ .in-range)) at (m′ .held))
+
+pub walk-in-order : WalkInOrder
+walk-in-order kv rbp prefix start nameBuf prefix′ start′ nameBuf′ e e′ l =
+    let x = iterator-exact kv rbp prefix start nameBuf in
+    let x′ = iterator-exact kv rbp prefix′ start′ nameBuf′ in
+    let h = x .condition .0 e in
+    let h′ = x′ .condition .0 e′ in
+    let n : bytesGiven (storeIteratorNext kv rbp prefix start nameBuf .answer) ≡ h .name = rw (x .gives h) (take-append-seam (h .name) _) in
+    let n′ : bytesGiven (storeIteratorNext kv rbp prefix′ start′ nameBuf′ .answer) ≡ h′ .name = rw (x′ .gives h′) (take-append-seam (h′ .name) _) in
+    let k : h .i < start′ = rw (x .gives h) at l in
+    rw (n, n′) (later-greater kv rbp prefix start nameBuf prefix′ start′ nameBuf′ h h′ k)

@@ -13,43 +13,24 @@ use Rattle.spec.specs.Status.{ok, Test, _when_}
 use Rattle.spec.specs.Record.{requireIntegrity, requireReplayProtection, validFlags, metadata, dataSizeOf, tagOf}
 use Rattle.spec.specs.Record.{encKey, authKey, crypt, recordCmac, sealedIv, sealedData, sealedTag, sealRecord, plaintext, Sealable}
 use Rattle.spec.specs.Slots.{firstIndex}
-use Rattle.spec.specs.Area.{Format, kvFormat, rbpFormat, slotFree, slotHolder, makeSlot, slots, lookup, hasSpace, target, insertSlot}
+use Rattle.spec.specs.Area.{Format, kvFormat, rbpFormat, slotFree, makeSlot, slots, lookup, hasSpace, insertSlot}
 use Rattle.spec.specs.Area.{Edit, keep, write, editArea}
 use Rattle.spec.specs.Layout.{placeBytes, entryBytes}
 use Rattle.spec.specs.Request.{statusOf}
 use Rattle.spec.specs.Decisions.{keySized, ivSized, setHeld, setTests, setEffect, setRequest}
 use Rattle.spec.specs.Calls.{Areas, areas, bindingOf, roomOf, storeWorld, storeSet, storeGet}
-use Rattle.spec.specs.Demand2.{done, Readable, FreeSlot, Settable, SetExact, RoundTrip, recordMade, tagMade, Placed, Stored, Stores}
+use Rattle.spec.specs.Demand2.{done, Readable, FreeSlot, Settable, SetExact, RoundTrip, recordMade, tagMade, Stores}
 use Rattle.buffers.proofs.Split.{split, both, not-false-is}
-use Rattle.spec.proofs.Slots.{held-at}
 use Rattle.spec.proofs.Chunks.{slots-length}
-use Rattle.spec.proofs.Slot.{FormatLaws, kv-laws, rbp-laws}
-use Rattle.spec.proofs.Area.{Sound, sized-length, Good, HasRoom, target-any, insert-sound, slot-insert, slot-insert-other, lookup-insert}
-use Rattle.spec.proofs.First.{first-in-range, any-at, first-passes, first-lowest, splice}
+use Rattle.spec.proofs.Slot.{kv-laws, rbp-laws}
+use Rattle.spec.proofs.Area.{Sound, Good, insert-sound, lookup-insert}
+use Rattle.spec.proofs.Placed.{stored-in}
+use Rattle.spec.proofs.First.{first-in-range, any-at, first-passes}
 use Rattle.spec.proofs.Record.{valid-flags-small, sealed-data-size, sealed-flags, sealed-tag}
 use Rattle.spec.proofs.Record.{sealed-tag-length, sealed-valid, sealed-mac, sealed-plaintext}
 use Rattle.spec.proofs.World.{run-done, kv-sound-of, rbp-sound-of, both-sound, accepted, acceptable}
 use Rattle.spec.proofs.Decision.{Decided, decided, decided-sealable, decided-passed, sealed-kv-good, sealed-rbp-good}
 use Rattle.spec.proofs.Get.{mac-eq, get-exact}
-
--- ---- an insert: what the area then holds, and where
-
-module _ (F : Format) (L : FormatLaws F) (area n p : List ℕ) (s : Sound F area) (g : Good F n p) (h : HasRoom F area n) where
-  placed : Placed F area n (makeSlot F n p) (insertSlot F area n p)
-  unfolding insertSlot
-  placed =
-      let t = target-any F area n h in
-      record {
-        i = firstIndex (target F area n) (slots F area);
-        in-range = first-in-range F (target F area n) area t;
-        own = λ q e. rw e (held-at (slotHolder F) n _ (rw e at (first-passes (target F area n) (slots F area) [] t)));
-        free = λ e. rw e (rw e at (first-passes (target F area n) (slots F area) [] t));
-        lowest = λ e j k. rw e at (first-lowest (target F area n) (slots F area) [] j k);
-        bytes = splice F (target F area n) (makeSlot F n p) area (sized-length F area (s .size)) t;
-      }
-
-  stored-in : Stored F area n (makeSlot F n p) (insertSlot F area n p)
-  stored-in = (record { own = slot-insert F L area n p s g h; others = slot-insert-other F L area n p s g }, placed)
 
 -- ---- what is stored, byte for byte
 
@@ -193,9 +174,9 @@ module _ (kv rbp key name : List ℕ) (flags : ℕ) (iv value : List ℕ) where
     pub stores : Stores kv rbp key name flags iv value (storeSet kv rbp key name flags iv value)
     stores = record {
       answer = rw set-done;
-      slot = rw (kv-after, ← slot-bytes) (stored-in kvFormat kv-laws kv name sealed (a .kv-sound) kv-good (a .choice .kv-room));
+      slot = rw (kv-after, ← slot-bytes) (stored-in kvFormat kv-laws kv name (a .kv-sound) sealed kv-good (a .choice .kv-room));
       rbp-slot = λ e. rw (rbp-written e, ← rbp-slot-bytes)
-          (stored-in rbpFormat rbp-laws rbp name (tagOf sealed) (a .rbp-sound) rbp-good (a .choice .rbp-room e));
+          (stored-in rbpFormat rbp-laws rbp name (a .rbp-sound) (tagOf sealed) rbp-good (a .choice .rbp-room e));
       rbp-kept = rbp-unchanged;
     }
 

@@ -2,15 +2,15 @@
 use mathlib.Core.Path.{_≡_, refl, sym, ap, _∙_}
 use mathlib.Core.Logic.{inl, inr, _↔_}
 use mathlib.Core.Bool.{Bool, true, false, _||_}
-use mathlib.Core.List.{List, [], _∷_, _++_, append-assoc, append-nil}
+use mathlib.Core.List.{List, _∷_, _++_, append-assoc, append-nil}
 use mathlib.Core.Option.{Option, none, some}
 use Prim.Native.Nat.{ℕ, _+_, _-_, _*_, _/_, _%_, _≤_}
 use native.Mathlib.Nat.{mul-div-cancel}
 use native.Mathlib.Omega.{arith}
-use borrow.Author.Tests.{eqb-true, eq-eqb, leb-true, leb-false, le-leb}
-use lib.Dec.{eqb, leb}
-use lib.ListN.{length, getD, take, drop, length-drop, take-append-drop}
-use lib.Seq.{take-at, drop-drop, drop-cons, length-take-le}
+use borrow.Author.Tests.{eqb-true, eq-eqb, leb-true, leb-false, le-leb, ltb-true, ltb-false}
+use lib.Dec.{eqb, leb, ltb}
+use lib.ListN.{length, getD, take, drop, length-take, length-drop, take-append-drop, List·getD-eq-default}
+use lib.Seq.{take-at, drop-drop, drop-cons, length-take-le, getD-take, getD-drop}
 use Rattle.buffers.specs.Bytes.{every, isSome, allZero, zeros, zeroFill, leBytes}
 use Rattle.spec.specs.Name.{validNameByte, validName, validPrefix}
 use Rattle.spec.specs.Record.{requireConfidentiality, requireIntegrity, validFlags}
@@ -22,10 +22,10 @@ use Rattle.spec.specs.Shapes.{AreBytes, NameBytes, GoodFlags, FlagShape,
 use Rattle.spec.specs.Shapes.{RecordParts, RecordShape, UsedPlace, UsedEntry, SlotShape, Shapes}
 use Rattle.buffers.proofs.Split.{split, clash, both, not-some}
 use Rattle.buffers.proofs.LittleEndian.{number-part}
-use Rattle.buffers.proofs.Bytes.{allZero-zeros, le-value}
+use Rattle.buffers.proofs.Bytes.{allZero-zeros, zeros-of, le-value}
 use Rattle.spec.proofs.First.{every-index, index-every}
-use Rattle.spec.proofs.Area.{sized-parts}
-use Rattle.spec.proofs.Intact.{intact-shape, lookup-shape}
+use Rattle.spec.proofs.Area.{sized-parts, free-holder}
+use Rattle.spec.proofs.Intact.{intact-shape, no-name-twice, lookup-shape}
 use Rattle.spec.proofs.Name.{byte-good, good-byte, byte-shape, valid-name}
 use Rattle.spec.proofs.Slot.{FormatLaws, Fits, kv-laws, rbp-laws, kv-fits, rbp-fits, not-free}
 use Rattle.spec.proofs.Slot.{made-valid, made-state, made-holder, made-payload, UsedSlot, used-slot}
@@ -104,12 +104,6 @@ module _ (F : Format) (L : FormatLaws F) (area : List ℕ) where
 two-front : (l : List ℕ) → 2 ≤ length l → l ≡ getD l 0 0 ∷ getD l 1 0 ∷ drop 2 l
 two-front l h = drop-cons l 0 0 (omega arith) ∙ ap (λ (t : List ℕ). getD l 0 0 ∷ t) (drop-cons l 1 0 h)
 
-zeros-of : (l : List ℕ) → allZero l ≡ true → l ≡ zeros (length l)
-zeros-of [] h = refl
-zeros-of (x ∷ l) h =
-    let p = both (eqb x 0) (allZero l) h in
-    λ i. eqb-true x 0 (p .0) i ∷ zeros-of l (p .1) i
-
 zeros-long : (l : List ℕ) (n : ℕ) → allZero l ≡ true → length l ≡ n → l ≡ zeros n
 zeros-long l n h e = zeros-of l h ∙ ap zeros e
 
@@ -120,6 +114,17 @@ unless-flag false test h e = h
 or-zeros : (flag : Bool) (l : List ℕ) (n : ℕ) → (flag ≡ false → l ≡ zeros n) → (flag || allZero l) ≡ true
 or-zeros true l n h = refl
 or-zeros false l n h = rw (h refl) (allZero-zeros n)
+
+-- parts of bytes are bytes
+pub bytes-drop : (l : List ℕ) → AreBytes l → (i : ℕ) → AreBytes (drop i l)
+bytes-drop l a i j = rw (getD-drop i l j 0) (a (i + j))
+
+pub bytes-part : (l : List ℕ) → AreBytes l → (i k : ℕ) → AreBytes (take k (drop i l))
+bytes-part l a i k j = split (ltb j k)
+    (λ t. rw (getD-take k (drop i l) j 0 (ltb-true j k t)) (bytes-drop l a i j))
+    (λ t.
+    let long : length (take k (drop i l)) ≤ j = omega (arith, length-take k (drop i l), ltb-false j k t) in
+    rw (List·getD-eq-default (take k (drop i l)) 0 {n = j} long) (omega arith))
 
 -- ---- a record
 
@@ -347,10 +352,20 @@ module _ (s : List ℕ) (w : UsedEntry s) where
   entry-parts : (slotHolder rbpFormat s ≡ some (w .name)) × (slotPayload rbpFormat s ≡ w .payload)
   entry-parts = parts-of rbpFormat rbp-laws s (w .name) (w .payload) (w .name-valid) entry-fits made-entry
 
+-- a used slot of bytes is made of its name and what it holds; that of the chip needs no bytes for it
+pub kv-made : (s : List ℕ) → length s ≡ 584 → AreBytes s → slotUsed kvFormat s ≡ true → s ≡ makeSlot kvFormat (slotName kvFormat s) (slotPayload kvFormat s)
+unfolding used-place
+kv-made s z b h = sym (made-place s (used-place s z b h))
+
+pub rbp-made : (s : List ℕ) → length s ≡ 82 → slotUsed rbpFormat s ≡ true → s ≡ makeSlot rbpFormat (slotName rbpFormat s) (slotPayload rbpFormat s)
+unfolding used-entry
+rbp-made s z h = sym (made-entry s (used-entry s z h))
+
 slot-shape : SlotShape
 slot-shape = record {
   kv = λ s z b. (used-place s z b, place-used s);
   rbp = λ s z. (used-entry s z, entry-used s);
+  free = free-holder;
   kv-parts = place-parts;
   rbp-parts = entry-parts;
 }
@@ -377,5 +392,6 @@ shapes-hold = record {
   of-slot = slot-shape;
   of-free-slot = free-shape;
   of-area = intact-shape;
+  of-names = no-name-twice;
   of-lookup = lookup-shape;
 }

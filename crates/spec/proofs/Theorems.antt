@@ -7,6 +7,7 @@ use Rattle.spec.specs.IncrementalExact.{Incremental}
 use Rattle.spec.specs.declared.incremental.IncSetHandle.{IncSetHandle}
 use Rattle.spec.specs.Demand3.{ClientIsolation, StepIsCall, ModelExact, Instance}
 use Rattle.spec.specs.Shapes.{Shapes}
+use Rattle.spec.specs.Images.{Images}
 use Rattle.spec.specs.TagComparison.{TagComparison}
 use Rattle.spec.specs.Downgrade.{Downgrade}
 use Rattle.spec.specs.Edges.{Edges, Numerals}
@@ -16,13 +17,14 @@ use Rattle.spec.proofs.Get.{get-exact, info-exact}
 use Rattle.spec.proofs.Set.{set-exact, round-trip}
 use Rattle.spec.proofs.Remove.{remove-exact}
 use Rattle.spec.proofs.Reset.{reset-exact}
-use Rattle.spec.proofs.Iterator.{iterator-exact}
+use Rattle.spec.proofs.Iterator.{iterator-exact, walk-in-order}
 use Rattle.spec.proofs.Refusals.{refusals}
 use Rattle.spec.proofs.IncrementalSet.{incremental}
 use Rattle.spec.proofs.Isolation.{client-isolation}
 use Rattle.spec.proofs.ModelExact.{step-is-call, model-exact}
 use Rattle.spec.proofs.Instance.{instance}
 use Rattle.spec.proofs.Shapes.{shapes-hold}
+use Rattle.spec.proofs.Images.{images}
 use Rattle.spec.proofs.TagComparison.{tag-comparison}
 use Rattle.spec.proofs.Downgrade.{downgrade}
 use Rattle.spec.proofs.Edges.{edges-hold, numerals-hold}
@@ -40,6 +42,7 @@ demand2 = record {
   remove-exact = remove-exact;
   reset-exact = reset-exact;
   iterator-exact = iterator-exact;
+  walk-in-order = walk-in-order;
   refusals = refusals;
 }
 
@@ -61,6 +64,9 @@ premises-met = instance
 
 pub shapes : Shapes
 shapes = shapes-hold
+
+pub same-images : Images
+same-images = images
 
 pub every-byte-compared : (key name r copy : List ℕ) → TagComparison key name r copy
 every-byte-compared = tag-comparison

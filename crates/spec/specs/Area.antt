@@ -5,16 +5,16 @@
 --   slotName, slotPayload, makeSlot            what is read from a slot, and a slot made
 --   slots, sized, names, intact                an area's slots; of right length; the names in it; without damage
 --   slotOf, lookup, hasSpace                   what it holds for a name; whether a slot is free
---   insertSlot, eraseSlot, Edit, editArea      a name's slot written or cleared
+--   insertSlot, eraseSlot, Edit, editArea      a name's slot written, or taken out
 use mathlib.Core.Bool.{Bool, cond, _&&_, _||_}
 use mathlib.Core.List.{List, [], _∷_, _++_}
 use mathlib.Core.Option.{Option, none, some}
 use Prim.Native.Nat.{ℕ, _+_, _-_, _*_, _/_}
 use lib.Dec.{eqb, leb}
 use lib.ListN.{length, getD, take, drop}
-use Rattle.buffers.specs.Bytes.{every, any, isSome, zeros, allZero, zeroFill, leBytes, u16At}
+use Rattle.buffers.specs.Bytes.{every, any, zeros, allZero, zeroFill, leBytes, u16At}
 use Rattle.spec.specs.Name.{Name, validName}
-use Rattle.spec.specs.Slots.{chunks, joinSlots, replaceFirst, findFirst, mapOption, distinct, isName, namesBy}
+use Rattle.spec.specs.Slots.{chunks, joinSlots, findFirst, mapOption, isName, namesBy, sortedBy, placeBy, closeUp}
 
 -- Where the parts of a slot stand. `header` is what stands before the name; `payloadLength` is how many bytes a slot says that it holds.
 pub record Format : Type 0 where
@@ -102,9 +102,9 @@ module _ (F : Format) where
   abbrev pub names : List ℕ → List Name
   names area = namesBy slotHolder (slots area)
 
-  -- 01: no "damage": every slot well shaped, and no two used ones with one name
+  -- no "damage": every slot well shaped, and by 02, No. 7, the used ones at the front in byte order of their names: "any other order is damage"
   unfoldable pub intact : List ℕ → Bool
-  intact area = every slotValid (slots area) && distinct (names area)
+  intact area = every slotValid (slots area) && sortedBy slotHolder (slots area)
 
   -- the slot that a name uses, and what it holds for the name
   abbrev pub slotOf : List ℕ → Name → Option (List ℕ)
@@ -117,16 +117,13 @@ module _ (F : Format) where
   unfoldable pub hasSpace : List ℕ → Bool
   hasSpace area = any slotFree (slots area)
 
-  -- 01: "A new name takes the lowest free place or entry; a known name keeps its own."
-  abbrev pub target : List ℕ → Name → List ℕ → Bool
-  target area name = cond (isSome (lookup area name)) (holds name) slotFree
-
+  -- 02, No. 7: "A set inserts"
   unfoldable pub insertSlot : List ℕ → Name → List ℕ → List ℕ
-  insertSlot area name payload = joinSlots (replaceFirst (target area name) (makeSlot name payload) (slots area))
+  insertSlot area name payload = joinSlots (placeBy slotHolder name (makeSlot name payload) (slots area))
 
-  -- 01: "the place is zeroed"
+  -- "and a remove closes up"
   unfoldable pub eraseSlot : List ℕ → Name → List ℕ
-  eraseSlot area name = joinSlots (replaceFirst (holds name) (zeros (F .slotSize)) (slots area))
+  eraseSlot area name = joinSlots (closeUp slotHolder name (zeros (F .slotSize)) (slots area))
 
 -- What a call does to one name in one area. It says the same of an area and of the reference model.
 pub data Edit : Type 0 where

@@ -134,7 +134,7 @@ module _ (protected : ℕ → Bool) where
   abbrev pub getTests : List ℕ → Name → ℕ → Binding → List Test
   getTests key name offset b = (3 when not (validName name)) ∷ getHeld key name offset b
 
-  -- "the place is zeroed, and with flag 8 the entry too, where there is one"
+  -- the record goes, "and with flag 8 the entry too, where there is one"
   unfoldable pub removeEffect : Binding → Effect
   removeEffect b = record { kv = clear; rbp = cond (protected (flagsOf (recordOf (b .stored)))) clear keep }
 

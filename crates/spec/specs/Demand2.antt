@@ -3,7 +3,8 @@
 --   Readable, opened, Reads                   get and info
 --   Settable, recordMade, Changed, Placed     set: the conditions; what it makes; what an area holds then; where it stands
 --   RoundTrip                                 what an accepted set stored, the next get returns whole
---   Removable, Iterable                       remove, walk
+--   Removable, ClosedUp                       remove: the conditions; what is left of the area
+--   Iterable, WalkInOrder                     walk: the conditions; that it goes in order
 --   Refuses, Refusals                         which number it is where it is not 0
 use mathlib.Core.Path.{_≡_}
 use mathlib.Core.Logic.{_≢_, _↔_}
@@ -17,7 +18,8 @@ use Rattle.cipher.specs.Cmac.{cmac}
 use Rattle.cipher.specs.Ctr.{ctr}
 use Rattle.cipher.specs.Kdf.{derivedKey, encPrefix, authPrefix}
 use Rattle.buffers.specs.Bytes.{isSome, zeros}
-use Rattle.spec.specs.Status.{Test, _when_, firstOf, Answer}
+use Rattle.buffers.specs.Compare.{precedes}
+use Rattle.spec.specs.Status.{Test, _when_, firstOf, Answer, bytesGiven}
 use Rattle.spec.specs.Name.{Name, validName, validPrefix}
 use Rattle.spec.specs.Record.{writeOnce, requireConfidentiality, requireIntegrity, requireReplayProtection, validFlags}
 use Rattle.spec.specs.Record.{dataSizeOf, flagsOf, ivOf, metadataOf, storedDataOf, tagOf, wellFormed, macOk}
@@ -131,19 +133,23 @@ pub record Changed (F : Format) (area name : List ℕ) (slot : Option (List ℕ)
   pub own : slotOf F area′ name ≡ slot
   pub others : (other : Name) → other ≢ name → slotOf F area′ other ≡ slotOf F area other
 
--- where it stands: in the place of the name's own slot, else of the lowest free one; no other byte is another
+-- where it stands, by 02, No. 7: behind the smaller names
 pub record Placed (F : Format) (area name slot area′ : List ℕ) : Type 0 where
   pub i : ℕ
   pub in-range : i < slotCount F area
-  pub own : (p : List ℕ) → lookup F area name ≡ some p → slotHolder F (getD (slots F area) i []) ≡ some name
-  pub free : lookup F area name ≡ none → slotFree (getD (slots F area) i []) ≡ true
-  pub lowest : lookup F area name ≡ none → (j : ℕ) → j < i → slotFree (getD (slots F area) j []) ≡ false
-  pub bytes : area′ ≡ take (i * F .slotSize) area ++ (slot ++ drop (i * F .slotSize + F .slotSize) area)
+  pub smaller : (j : ℕ) → j < i → (other : Name) × (slotHolder F (getD (slots F area) j []) ≡ some other) × (precedes other name ≡ true)
+  -- a known name keeps its slot, and no other byte is another
+  pub known : (p : List ℕ) → lookup F area name ≡ some p → (slotHolder F (getD (slots F area) i []) ≡ some name)
+      × (area′ ≡ take (i * F .slotSize) area ++ (slot ++ drop (i * F .slotSize + F .slotSize) area))
+  -- a new one stands in front of a greater name or a free slot; what stood there and behind it stands one slot further on, and the last one, which was free,
+  -- goes
+  pub new : lookup F area name ≡ none → ((other : Name) → slotHolder F (getD (slots F area) i []) ≡ some other → precedes name other ≡ true)
+      × (area′ ++ zeros (F .slotSize) ≡ take (i * F .slotSize) area ++ (slot ++ drop (i * F .slotSize) area))
 
 abbrev pub Stored : Format → List ℕ → Name → List ℕ → List ℕ → Type 0
 Stored F area name slot area′ = Changed F area name (some slot) area′ × Placed F area name slot area′
 
--- "the place holds the record; with flag 8 the entry holds its CMAC; nothing else changes"
+-- "the place holds the record; with flag 8 the entry holds its CMAC; nothing else changes"; by 02, No. 7, others may stand one slot further on
 pub record Stores (kv rbp key name : List ℕ) (flags : ℕ) (iv value : List ℕ) (o : Outcome Areas Answer) : Type 0 where
   pub answer : o ≡ done (o .after) [] []
   pub slot : Stored kvFormat kv name (placeBytes name (recordMade key name flags iv value)) (o .after .kv)
@@ -172,10 +178,17 @@ pub record Removable (kv rbp name : List ℕ) : Type 0 where
   pub valid : wellFormed r ≡ true
   pub not-write-once : writeOnce (flagsOf r) ≡ false
 
-abbrev pub Cleared : Format → List ℕ → Name → List ℕ → Type 0
-Cleared F area name area′ = Changed F area name none area′ × Placed F area name (zeros (F .slotSize)) area′
+-- the slot of the name is taken out, all behind it stands one slot further to the front, and a free one is the last
+pub record ClosedUp (F : Format) (area name area′ : List ℕ) : Type 0 where
+  pub i : ℕ
+  pub in-range : i < slotCount F area
+  pub held : slotHolder F (getD (slots F area) i []) ≡ some name
+  pub bytes : area′ ≡ take (i * F .slotSize) area ++ (drop (i * F .slotSize + F .slotSize) area ++ zeros (F .slotSize))
 
--- "the place is zeroed, and with flag 8 the entry too, where there is one"
+abbrev pub Cleared : Format → List ℕ → Name → List ℕ → Type 0
+Cleared F area name area′ = Changed F area name none area′ × ClosedUp F area name area′
+
+-- the record is gone from the card, "and with flag 8 the entry too, where there is one"; 02, No. 7: "a remove closes up"
 pub record Clears (kv rbp name r : List ℕ) (o : Outcome Areas Answer) : Type 0 where
   pub answer : o ≡ done (o .after) [] []
   pub slot : Cleared kvFormat kv name (o .after .kv)
@@ -215,6 +228,13 @@ IteratorExact = (kv rbp prefix : List ℕ) (start : ℕ) (nameBuf : List ℕ)
     → let o = storeIteratorNext kv rbp prefix start nameBuf in
     Exact o (Iterable kv rbp prefix start nameBuf)
     (λ h. o ≡ done (areas kv rbp) (length (h .name) ∷ suc (h .i) ∷ []) (h .name ++ drop (length (h .name)) nameBuf))
+
+-- 02, No. 7: so it goes in byte order of names: from the slot on that a done walk gives, or a later one, it gives a greater name
+abbrev pub WalkInOrder : Type 0
+WalkInOrder = (kv rbp prefix : List ℕ) (start : ℕ) (nameBuf prefix′ : List ℕ) (start′ : ℕ) (nameBuf′ : List ℕ)
+    → let a = storeIteratorNext kv rbp prefix start nameBuf .answer in
+    let a′ = storeIteratorNext kv rbp prefix′ start′ nameBuf′ .answer in
+    a .status ≡ 0 → a′ .status ≡ 0 → getD (a .numbers) 1 0 ≤ start′ → precedes (bytesGiven a) (bytesGiven a′) ≡ true
 
 -- ---- the other numbers: "Each number is given when its test is the first to fail in the order below, and never otherwise."
 
@@ -268,5 +288,6 @@ pub record Demand2 : Type 0 where
   pub remove-exact : RemoveExact
   pub reset-exact : ResetExact
   pub iterator-exact : IteratorExact
+  pub walk-in-order : WalkInOrder
   pub refusals : (kv rbp key name : List ℕ) (flags offset start : ℕ) (iv value output prefix nameBuf : List ℕ)
       → Refusals kv rbp key name flags offset start iv value output prefix nameBuf

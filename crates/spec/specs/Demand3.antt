@@ -1,8 +1,9 @@
--- Demand 3: two clients that share no name do not see each other. One claim about whole lists.
+-- Demand 3: two clients that share no name do not see each other, and how their calls are merged makes no difference to card and chip. One claim about whole
+-- lists.
 --   Names, namesWhere, RoomFor, IsolationPremise   what is asked of the start and of the two lists
 --   Isolated, ClientIsolation                      the claim
 --   StepIsCall, ModelExact                         the steps are the calls; the reference model keeps demand 2's rules
---   Instance                                       a merge that meets the premise, and what it is answered
+--   Instance                                       two merges that meet the premise, and what is answered and left
 use mathlib.Core.Path.{_≡_}
 use mathlib.Core.Logic.{_≢_}
 use mathlib.Core.Bool.{Bool, true, false, cond, not, _&&_}
@@ -67,6 +68,8 @@ module _ (kv rbp : List ℕ) (ls rs : List Call) (l : List (Tagged Call)) where
     pub undamaged : Undamaged (atEnd .kv) (atEnd .rbp)
     pub kv-length : length (atEnd .kv) ≡ length kv
     pub rbp-length : length (atEnd .rbp) ≡ length rbp
+    -- 02, No. 7: "any two merges of the same two lists from the same start [..] end with equal bytes on card and chip"
+    pub same-bytes : (l′ : List (Tagged Call)) → Interleaving ls rs l′ → final (sharedStep storeStep) (areas kv rbp) l′ ≡ atEnd
 
 abbrev pub ClientIsolation : Type 0
 ClientIsolation = (kv rbp : List ℕ) (ls rs : List Call) (l : List (Tagged Call)) → Interleaving ls rs l → IsolationPremise kv rbp ls rs → Isolated kv rbp ls rs l
@@ -161,8 +164,16 @@ calls =
 abbrev pub status : ℕ → Answer
 status n = record { status = n; numbers = []; output = [] }
 
+-- the same two lists one after the other
+abbrev pub inTurn : List (Tagged Call)
+inTurn = map (by left) (lefts calls) ++ map (by right) (rights calls)
+
 pub record Instance : Type 0 where
   pub premise : IsolationPremise (replicate 1168 0) (replicate 164 0) (lefts calls) (rights calls)
   pub left-replies : lefts (answers (sharedStep storeStep) (areas (replicate 1168 0) (replicate 164 0)) calls)
       ≡ status 0 ∷ status 19 ∷ status 0 ∷ record { status = 0; numbers = 1 ∷ []; output = 6 ∷ 9 ∷ 9 ∷ [] } ∷ []
   pub right-replies : rights (answers (sharedStep storeStep) (areas (replicate 1168 0) (replicate 164 0)) calls) ≡ status 0 ∷ status 6 ∷ []
+  -- two merges of them, and equal bytes after both
+  pub merged : Interleaving (lefts calls) (rights calls) calls × Interleaving (lefts calls) (rights calls) inTurn
+  pub same-bytes : final (sharedStep storeStep) (areas (replicate 1168 0) (replicate 164 0)) inTurn
+      ≡ final (sharedStep storeStep) (areas (replicate 1168 0) (replicate 164 0)) calls

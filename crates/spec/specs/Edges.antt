@@ -1,6 +1,6 @@
--- 01, "Edges to try", those marked P, and what 02, No. 1, makes of the one for 0x20: one table of what the definitions give and what the papers say, and
--- one statement, that the two columns are equal (`edges`, `Edges`). Beside it a place and an entry in numerals (`Numerals`), since in 01's "whole"
--- several fields are alike. Calls are made on one blank slot of each kind, under the all-zero device key.
+-- 01, "Edges to try", those marked P, what 02, No. 1, makes of the one for 0x20, and the order of No. 7: one table of what the definitions give and what the
+-- papers say, and one statement, that the two columns are equal (`edges`, `Edges`). Beside it a place and an entry in numerals (`Numerals`), since in 01's
+-- "whole" several fields are alike. Calls are made under the all-zero device key, and but for those of No. 7 on one blank slot of each kind.
 use mathlib.Core.Path.{_≡_}
 use mathlib.Core.List.{List, [], _∷_, _++_, map}
 use mathlib.Core.Option.{some}
@@ -9,7 +9,8 @@ use lib.ListN.{take, drop, replicate}
 use Rattle.cipher.specs.Kdf.{salt, encPrefix, authPrefix}
 use Rattle.spec.specs.Name.{Name, keyName}
 use Rattle.spec.specs.Area.{rbpFormat, lookup}
-use Rattle.spec.specs.Calls.{storeSet, storeGet}
+use Rattle.spec.specs.Layout.{recordBytes, placeBytes, entryBytes}
+use Rattle.spec.specs.Calls.{storeSet, storeGet, storeRemove}
 
 -- "a"; 29 bytes, the last one unlike the others
 abbrev pub nameA : Name
@@ -38,6 +39,34 @@ readAt offset =
     let a = storeGet (kvAfter (1 ∷ 2 ∷ 3 ∷ [])) blankRbp (replicate 16 0) nameA offset (replicate 8 0) .answer in
     a .status ∷ a .numbers
 
+-- cards and chips of these names, in this order, the empty name for a free slot; the status of a get of "a" there
+abbrev pub cardOf : List Name → List ℕ
+cardOf [] = []
+cardOf ([] ∷ ns) = replicate 584 0 ++ cardOf ns
+cardOf ((b ∷ n) ∷ ns) = placeBytes (b ∷ n) (recordBytes 0 0 (replicate 8 0) [] (replicate 16 0)) ++ cardOf ns
+
+abbrev pub chipOf : List Name → List ℕ
+chipOf [] = []
+chipOf ([] ∷ ns) = replicate 82 0 ++ chipOf ns
+chipOf ((b ∷ n) ∷ ns) = entryBytes (b ∷ n) (replicate 16 7) ++ chipOf ns
+
+abbrev pub getOn : List Name → List Name → List ℕ
+getOn card chip = storeGet (cardOf card) (chipOf chip) (replicate 16 0) nameA 0 [] .answer .status ∷ []
+
+-- such a card after a set of a name with flags 0 and no data, and after a remove
+abbrev pub setOn : List Name → Name → List ℕ
+setOn card name = storeSet (cardOf card) blankRbp (replicate 16 0) name 0 (replicate 8 0) [] .after .kv
+
+abbrev pub removeOn : List Name → Name → List ℕ
+removeOn card name = storeRemove (cardOf card) blankRbp name .after .kv
+
+-- "b", "ab"
+abbrev pub nameB : Name
+nameB = 0x62 ∷ []
+
+abbrev pub nameAb : Name
+nameAb = 0x61 ∷ 0x62 ∷ []
+
 abbrev pub edges : List (List ℕ × List ℕ)
 edges =
     -- a name of 64 bytes: good; 0 or 65: 3; by 02, No. 1, a byte 0x20, 0x80 or 0xff: good; 0x1f or 0x7f: 3; one space: good
@@ -63,6 +92,25 @@ edges =
     -- salt for a name of 29 bytes: "AUTH" drops its last byte, "ENC" keeps all
     ∷ (salt authPrefix name29, 0x41 ∷ 0x55 ∷ 0x54 ∷ 0x48 ∷ replicate 28 0x61)
     ∷ (salt encPrefix name29, 0x45 ∷ 0x4e ∷ 0x43 ∷ (replicate 28 0x61 ++ 0x62 ∷ []))
+    -- 02, No. 7: in order of names, on card and chip; out of order, a free slot in front, a name twice, a prefix behind, signed bytes: 2
+    ∷ (getOn (nameA ∷ nameB ∷ []) ([] ∷ []), 0 ∷ [])
+    ∷ (getOn (nameA ∷ nameAb ∷ []) (nameB ∷ []), 0 ∷ [])
+    ∷ (getOn (nameB ∷ nameA ∷ []) ([] ∷ []), 2 ∷ [])
+    ∷ (getOn ([] ∷ nameA ∷ []) ([] ∷ []), 2 ∷ [])
+    ∷ (getOn (nameA ∷ nameA ∷ []) ([] ∷ []), 2 ∷ [])
+    ∷ (getOn (nameAb ∷ nameA ∷ []) ([] ∷ []), 2 ∷ [])
+    ∷ (getOn (nameA ∷ (0x80 ∷ []) ∷ []) ([] ∷ []), 0 ∷ [])
+    ∷ (getOn ((0x80 ∷ []) ∷ nameA ∷ []) ([] ∷ []), 2 ∷ [])
+    ∷ (getOn (nameA ∷ []) (nameB ∷ nameAb ∷ []), 2 ∷ [])
+    ∷ (getOn (nameA ∷ []) ([] ∷ nameB ∷ []), 2 ∷ [])
+    -- a new name in front, between and behind a prefix, last; a known one stays; a full card stays as it is; one that is removed leaves no hole
+    ∷ (setOn (nameAb ∷ nameB ∷ [] ∷ []) nameA, cardOf (nameA ∷ nameAb ∷ nameB ∷ []))
+    ∷ (setOn (nameA ∷ nameB ∷ [] ∷ []) nameAb, cardOf (nameA ∷ nameAb ∷ nameB ∷ []))
+    ∷ (setOn (nameA ∷ [] ∷ []) (0xff ∷ []), cardOf (nameA ∷ (0xff ∷ []) ∷ []))
+    ∷ (setOn (nameA ∷ nameB ∷ []) nameB, cardOf (nameA ∷ nameB ∷ []))
+    ∷ (setOn (nameA ∷ nameB ∷ []) nameAb, cardOf (nameA ∷ nameB ∷ []))
+    ∷ (removeOn (nameA ∷ nameAb ∷ nameB ∷ []) nameA, cardOf (nameAb ∷ nameB ∷ [] ∷ []))
+    ∷ (removeOn (nameA ∷ nameB ∷ []) nameB, cardOf (nameA ∷ [] ∷ []))
     -- offset equal to data size: done, count 0; one more: 14
     ∷ (readAt 3, 0 ∷ 0 ∷ [])
     ∷ (readAt 4, 14 ∷ 0 ∷ [])

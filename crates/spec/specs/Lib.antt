@@ -15,6 +15,7 @@ pub mod Demand2
 pub mod IncrementalExact
 pub mod Demand3
 pub mod Shapes
+pub mod Images
 pub mod TagComparison
 pub mod Edges
 pub mod Downgrade

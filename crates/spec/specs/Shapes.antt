@@ -2,7 +2,8 @@
 --   NameBytes, FlagShape, Multiple   the bytes of a good name, the flags, a right length
 --   WellFormed, RecordShape          a record that is well formed, and what is read from it
 --   UsedPlace, UsedEntry, SlotShape  a used slot, and what is read from it
---   NoDamage, SlotHeld, LookupShape  an area without damage; what it holds for a name
+--   NoDamage, Once                   an area without damage; that no name is in it twice
+--   SlotHeld, LookupShape            what it holds for a name
 --   Shapes                           all of it, with names, prefixes, lengths and free slots
 use mathlib.Core.Path.{_≡_}
 use mathlib.Core.Logic.{_≢_, _⊎_, _↔_}
@@ -14,6 +15,7 @@ use lib.ListN.{length, getD, take, drop}
 use Rattle.cipher.specs.Cmac.{cmac}
 use Rattle.cipher.specs.Kdf.{derivedKey, authPrefix}
 use Rattle.buffers.specs.Bytes.{isSome, zeros}
+use Rattle.buffers.specs.Compare.{precedes}
 use Rattle.spec.specs.Name.{Name, validNameByte, validName, validPrefix}
 use Rattle.spec.specs.Record.{writeOnce, requireConfidentiality, requireIntegrity, requireReplayProtection, validFlags}
 use Rattle.spec.specs.Record.{dataSizeOf, flagsOf, ivOf, metadataOf, storedDataOf, tagOf, wellFormed, macOk}
@@ -101,7 +103,9 @@ pub record UsedEntry (slot : List ℕ) : Type 0 where
 pub record SlotShape : Type 0 where
   pub kv : (slot : List ℕ) → length slot ≡ 584 → AreBytes slot → (slotUsed kvFormat slot ≡ true) ↔ UsedPlace slot
   pub rbp : (slot : List ℕ) → length slot ≡ 82 → (slotUsed rbpFormat slot ≡ true) ↔ UsedEntry slot
-  -- the name and the record, or the CMAC, that are read from it
+  -- a free one has no name
+  pub free : (F : Format) (slot : List ℕ) → slotFree slot ≡ true → slotHolder F slot ≡ none
+  -- the name and the record, or the CMAC, that are read from a used one
   pub kv-parts : (slot : List ℕ) (u : UsedPlace slot) → (slotHolder kvFormat slot ≡ some (u .name)) × (slotPayload kvFormat slot ≡ u .payload)
   pub rbp-parts : (slot : List ℕ) (u : UsedEntry slot) → (slotHolder rbpFormat slot ≡ some (u .name)) × (slotPayload rbpFormat slot ≡ u .payload)
 
@@ -109,13 +113,19 @@ pub record SlotShape : Type 0 where
 abbrev pub slotAt : Format → List ℕ → ℕ → List ℕ
 slotAt F area i = take (F .slotSize) (drop (i * F .slotSize) area)
 
--- no "damage": every slot is free or used, and "two used places may not hold one name, nor two entries"
+-- no "damage": every slot is free or used; by 02, No. 7, used ones "stand at the front in byte order of their names [..], free ones after"
 pub record NoDamage (F : Format) (area : List ℕ) : Type 0 where
   pub shaped : (i : ℕ) → i < slotCount F area → (slotFree (slotAt F area i) ≡ true) ⊎ (slotUsed F (slotAt F area i) ≡ true)
-  pub once : (i j : ℕ) (name : Name) → i < slotCount F area → j < slotCount F area
-      → slotHolder F (slotAt F area i) ≡ some name → slotHolder F (slotAt F area j) ≡ some name → i ≡ j
+  pub front : (i j : ℕ) → i < j → j < slotCount F area → slotFree (slotAt F area i) ≡ true → slotFree (slotAt F area j) ≡ true
+  pub ordered : (i j : ℕ) (n m : Name) → i < j → j < slotCount F area
+      → slotHolder F (slotAt F area i) ≡ some n → slotHolder F (slotAt F area j) ≡ some m → precedes n m ≡ true
 
--- the slot that a name uses (the lowest, where two have the name)
+-- "Two used places may not hold one name, nor two entries."
+abbrev pub Once : Format → List ℕ → Type 0
+Once F area = (i j : ℕ) (name : Name) → i < slotCount F area → j < slotCount F area
+    → slotHolder F (slotAt F area i) ≡ some name → slotHolder F (slotAt F area j) ≡ some name → i ≡ j
+
+-- the slot that a name uses (the lowest, where two have the name, as in a damaged area alone)
 pub record SlotHeld (F : Format) (area name slot : List ℕ) : Type 0 where
   pub i : ℕ
   pub in-range : i < slotCount F area
@@ -146,4 +156,6 @@ pub record Shapes : Type 0 where
   -- "A free place or entry is all zero."
   pub of-free-slot : (slot : List ℕ) → (slotFree slot ≡ true) ↔ (slot ≡ zeros (length slot))
   pub of-area : (F : Format) (area : List ℕ) → (intact F area ≡ true) ↔ NoDamage F area
+  -- an area in byte order of its names has none of them twice
+  pub of-names : (F : Format) (area : List ℕ) → intact F area ≡ true → Once F area
   pub of-lookup : (F : Format) (area name : List ℕ) → LookupShape F area name

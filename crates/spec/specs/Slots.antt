@@ -1,14 +1,17 @@
 -- Lists of slots, whatever a slot is.
 --   chunks, joinSlots                     a flat area cut into slots, and slots joined
---   findFirst, firstIndex, replaceFirst   the first slot that passes a test: itself, its index, another in its place
---   member, distinct, dedup               lists of names: one among them, none twice, equal ones once
+--   findFirst, firstIndex                 the first slot that passes a test: itself, its index
+--   member, dedup                         lists of names: one among them, equal ones once
 --   isName, namesBy                       the names that slots have
-use mathlib.Core.Bool.{Bool, true, false, cond, not, _&&_}
+--   inOrder, sortedBy                     02, No. 7: slots in order of their names
+--   dropLast, placeBy, closeUp            a slot put in its place in that order, or taken out of it
+use mathlib.Core.Bool.{Bool, true, false, cond, _&&_}
 use mathlib.Core.List.{List, [], _∷_, _++_}
 use mathlib.Core.Option.{Option, none, some}
 use Prim.Native.Nat.{ℕ, zero, suc}
 use lib.ListN.{take, drop}
-use Rattle.buffers.specs.Bytes.{any, bytesEq}
+use Rattle.buffers.specs.Bytes.{every, any, bytesEq}
+use Rattle.buffers.specs.Compare.{precedes}
 use Rattle.spec.specs.Name.{Name}
 
 -- the first k parts of w bytes each
@@ -19,11 +22,6 @@ chunks w (suc k) l = take w l ∷ chunks w k (drop w l)
 abbrev pub joinSlots : List (List ℕ) → List ℕ
 joinSlots [] = []
 joinSlots (s ∷ ss) = s ++ joinSlots ss
-
--- q in the place of the first element that passes the test, if there is one
-abbrev pub replaceFirst : {A : Type 0} → (A → Bool) → A → List A → List A
-replaceFirst t q [] = []
-replaceFirst t q (x ∷ xs) = cond (t x) (q ∷ xs) (x ∷ replaceFirst t q xs)
 
 -- the index of the first element that passes the test, or how many there are
 abbrev pub firstIndex : {A : Type 0} → (A → Bool) → List A → ℕ
@@ -40,11 +38,6 @@ mapOption f (some a) = some (f a)
 
 abbrev pub member : Name → List Name → Bool
 member n l = any (bytesEq n) l
-
--- no name twice
-abbrev pub distinct : List Name → Bool
-distinct [] = true
-distinct (n ∷ l) = not (member n l) && distinct l
 
 -- equal names once
 abbrev pub dedup : List Name → List Name
@@ -63,3 +56,34 @@ consName (some n) l = n ∷ l
 abbrev pub namesBy : {A : Type 0} → (A → Option Name) → List A → List Name
 namesBy holder [] = []
 namesBy holder (x ∷ xs) = consName (holder x) (namesBy holder xs)
+
+-- ---- 02, No. 7: slots that "stand at the front in byte order of their names [..], free ones after"
+
+-- what one slot holds may stand in front of what another holds
+abbrev pub inOrder : Option Name → Option Name → Bool
+inOrder a none = true
+inOrder none (some m) = false
+inOrder (some n) (some m) = precedes n m
+
+abbrev pub dropLast : {A : Type 0} → List A → List A
+dropLast [] = []
+dropLast (x ∷ []) = []
+dropLast (x ∷ y ∷ xs) = x ∷ dropLast (y ∷ xs)
+
+module _ {A : Type 0} (holder : A → Option Name) where
+  -- whatever stands behind a slot may stand there
+  abbrev pub sortedBy : List A → Bool
+  sortedBy [] = true
+  sortedBy (x ∷ xs) = every (λ y. inOrder (holder x) (holder y)) xs && sortedBy xs
+
+  -- "A set inserts": q in the place of the slot of its name; else in front of the first that is free or has a greater name, and what stands there and
+  -- behind it moves one on, so that the last one goes
+  abbrev pub placeBy : Name → A → List A → List A
+  placeBy n q [] = []
+  placeBy n q (x ∷ xs) =
+      cond (isName n (holder x)) (q ∷ xs) (cond (inOrder (some n) (holder x)) (q ∷ dropLast (x ∷ xs)) (x ∷ placeBy n q xs))
+
+  -- "a remove closes up": what stands behind the slot of the name moves one to the front, and a free one is last
+  abbrev pub closeUp : Name → A → List A → List A
+  closeUp n free [] = []
+  closeUp n free (x ∷ xs) = cond (isName n (holder x)) (xs ++ free ∷ []) (x ∷ closeUp n free xs)

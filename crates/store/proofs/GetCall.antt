@@ -74,9 +74,9 @@ module _ (kv rbp key name : List ℕ) where
               passed = done;
               key-sized = r .key-sized;
               kv-found = (u .kv-sized, readable kvFormat kv name (j .found) record-found (u .kv-sized) (u .kv-intact));
-              valid = λ p q. rw (payload-is kvFormat kv name (j .found) record-found p q, stored-is) (r .valid);
-              in-range = λ p q. rw (payload-is kvFormat kv name (j .found) record-found p q, stored-is) (r .in-range);
-              stored = payload-is kvFormat kv name (j .found) record-found;
+              valid = λ p q. rw (payload-is kvFormat kv name (j .found) record-found (u .kv-intact) p q, stored-is) (r .valid);
+              in-range = λ p q. rw (payload-is kvFormat kv name (j .found) record-found (u .kv-intact) p q, stored-is) (r .in-range);
+              stored = payload-is kvFormat kv name (j .found) record-found (u .kv-intact);
             }
 
       module _ (output : List ℕ) where

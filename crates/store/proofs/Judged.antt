@@ -30,10 +30,10 @@ module _ (F : Format) (l name : List ℕ) (f : Found) (e : f ≡ foundIn F l nam
   held-is = ap (λ (x : Found). x .held) e ∙ found-held F l name
 
   pub readable : sized F l ≡ true → intact F l ≡ true → CanRead F l f
-  readable s g = rw e (found-readable F l name s g)
+  readable s g = rw e (found-readable F l g name s)
 
-  pub payload-is : (p : List ℕ) → p ≡ payloadAt F l f → p ≡ recordOf (lookup F l name)
-  payload-is p h = h ∙ ap (payloadAt F l) e ∙ found-payload F l name
+  pub payload-is : intact F l ≡ true → (p : List ℕ) → p ≡ payloadAt F l f → p ≡ recordOf (lookup F l name)
+  payload-is g p h = h ∙ ap (payloadAt F l) e ∙ found-payload F l g name
 
 -- two lists in order, decided one by one
 pub in-order : (l m : List Test) (a b : ℕ) → every nonzero (map number l) ≡ true → a ≡ firstOf l → b ≡ firstOf m

@@ -3,22 +3,21 @@ use mathlib.Core.Path.{_≡_, refl, sym, ap, _∙_}
 use mathlib.Core.Logic.{_≢_}
 use mathlib.Core.Bool.{Bool, true, false, cond, not, _&&_}
 use mathlib.Core.List.{List, [], _∷_, _++_}
-use Prim.Native.Nat.{ℕ, _<_}
+use Prim.Native.Nat.{ℕ}
 use Rattle.buffers.specs.Bytes.{isSome}
 use Rattle.buffers.proofs.Split.{not-some, is-some}
 use Rattle.spec.specs.Status.{ok, Test, _when_, firstOf}
 use Rattle.spec.specs.Name.{validName}
 use Rattle.spec.specs.Record.{requireReplayProtection, wellFormed, flagsOf}
-use Rattle.spec.specs.Area.{kvFormat, rbpFormat, sized, slotCount, lookup, keep, clear, eraseSlot, editArea}
+use Rattle.spec.specs.Area.{kvFormat, rbpFormat, sized, lookup, keep, clear, eraseSlot, editArea}
 use Rattle.spec.specs.Request.{Request}
 use Rattle.spec.specs.Decisions.{recordOf, removeHeld, removeEffect, removeRequest}
 use Rattle.spec.specs.Calls.{Areas, areas, storeWorld, storeRemove}
 use Rattle.spec.specs.Demand2.{Undamaged, Removable}
 use Rattle.spec.proofs.World.{run-done, run-refused, accepted}
 use Rattle.spec.proofs.Remove.{remove-exact}
-use Rattle.slots.specs.declared.areas.Found.{Found}
-use Rattle.slots.specs.Found.{slotFor, foundIn, CanRead, payloadAt, eraseAt}
-use Rattle.slots.proofs.Edits.{found-at, erase-found, erase-absent, held-there}
+use Rattle.slots.specs.Found.{foundIn, CanRead, payloadAt, eraseAt}
+use Rattle.slots.proofs.Edits.{erase-found, erase-absent}
 use Rattle.store.specs.declared.judge.Judged.{Judged}
 use Rattle.store.specs.Parts.{removeEarly, judged, recordErased}
 use Rattle.store.proofs.Judged.{Left, held-is, readable, payload-is, all-passed, kv-found, rbp-found}
@@ -47,8 +46,9 @@ module _ (kv rbp name : List ℕ) where
     pub record RemoveAccepted : Type 0 where
       pub kv-found : (sized kvFormat kv ≡ true) × CanRead kvFormat kv (j .found)
       pub valid : (p : List ℕ) → p ≡ payloadAt kvFormat kv (j .found) → wellFormed p ≡ true
-      pub kv-slot : (sized kvFormat kv ≡ true) × (j .found .at < slotCount kvFormat kv)
-      pub rbp-slot : (sized rbpFormat rbp ≡ true) × (j .entry .held ≡ true → j .entry .at < slotCount rbpFormat rbp)
+      pub undamaged : Undamaged kv rbp
+      pub held : j .found .held ≡ true
+      pub rbp-found : CanRead rbpFormat rbp (j .entry)
       pub done : (p : List ℕ) → p ≡ payloadAt kvFormat kv (j .found) → (flags : ℕ) → flags ≡ flagsOf p
           → (after : Areas) → after ≡ recordErased kv rbp (j .found) (j .entry) flags → Left ok after ≡ storeRemove kv rbp name
 
@@ -74,19 +74,13 @@ module _ (kv rbp name : List ℕ) where
       unfolding removeHeld
       entry-found = rbp-found kv rbp name first rest j e h refl
 
-      at-is : j .found .at ≡ slotFor kvFormat kv name
-      at-is = ap (λ (x : Found). x .at) record-found ∙ found-at kvFormat kv name
-
-      entry-is : j .entry .at ≡ slotFor rbpFormat rbp name
-      entry-is = ap (λ (x : Found). x .at) entry-found ∙ found-at rbpFormat rbp name
-
       entry-held : j .entry .held ≡ isSome (lookup rbpFormat rbp name)
       entry-held = held-is rbpFormat rbp name (j .entry) entry-found
 
-      -- an entry that is not there is not cleared, which is the same
+      -- an entry that is not there is not taken out, which is the same
       held-erased : (held : Bool) → isSome (lookup rbpFormat rbp name) ≡ held
           → cond held (eraseAt rbpFormat rbp (foundIn rbpFormat rbp name)) rbp ≡ eraseSlot rbpFormat rbp name
-      held-erased true p = erase-found rbpFormat rbp name p
+      held-erased true p = erase-found rbpFormat rbp (removable .undamaged .rbp-intact) name p
       held-erased false p = sym (erase-absent rbpFormat rbp name (removable .undamaged .rbp-sized) (not-some (lookup rbpFormat rbp name) p))
 
       tag-erased : (flagged : Bool) → cond (flagged && isSome (lookup rbpFormat rbp name)) (eraseAt rbpFormat rbp (foundIn rbpFormat rbp name)) rbp
@@ -98,8 +92,8 @@ module _ (kv rbp name : List ℕ) where
           → (after : Areas) → after ≡ recordErased kv rbp (j .found) (j .entry) flags → Left ok after ≡ storeRemove kv rbp name
       unfolding storeRemove removeEffect
       erased p q flags f after w =
-          let g = f ∙ ap flagsOf (payload-is kvFormat kv name (j .found) record-found p q) in
-          let known = erase-found kvFormat kv name is-held in
+          let g = f ∙ ap flagsOf (payload-is kvFormat kv name (j .found) record-found (removable .undamaged .kv-intact) p q) in
+          let known = erase-found kvFormat kv (removable .undamaged .kv-intact) name is-held in
           let tag = tag-erased (requireReplayProtection (flagsOf stored)) in
           ap (Left ok) w
           ∙ (λ i. Left ok (areas (eraseAt kvFormat kv (record-found i))
@@ -113,8 +107,9 @@ module _ (kv rbp name : List ℕ) where
           let stored-is : stored ≡ removable .r = ap recordOf (removable .found) in
           record {
             kv-found = (u .kv-sized, readable kvFormat kv name (j .found) record-found (u .kv-sized) (u .kv-intact));
-            valid = λ p q. ap wellFormed (payload-is kvFormat kv name (j .found) record-found p q ∙ stored-is) ∙ removable .valid;
-            kv-slot = (u .kv-sized, rw at-is (held-there kvFormat kv name is-held));
-            rbp-slot = (u .rbp-sized, λ p. rw entry-is (held-there rbpFormat rbp name (sym entry-held ∙ p)));
+            valid = λ p q. ap wellFormed (payload-is kvFormat kv name (j .found) record-found (u .kv-intact) p q ∙ stored-is) ∙ removable .valid;
+            undamaged = u;
+            held = held-is kvFormat kv name (j .found) record-found ∙ is-held;
+            rbp-found = readable rbpFormat rbp name (j .entry) entry-found (u .rbp-sized) (u .rbp-intact);
             done = erased;
           }

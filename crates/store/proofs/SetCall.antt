@@ -3,21 +3,21 @@ use mathlib.Core.Path.{_≡_, refl, sym, ap, _∙_}
 use mathlib.Core.Logic.{_≢_}
 use mathlib.Core.Bool.{Bool, true, cond, not, _&&_}
 use mathlib.Core.List.{List, [], _∷_, _++_}
-use Prim.Native.Nat.{ℕ, _<_}
+use Prim.Native.Nat.{ℕ}
 use lib.ListN.{length}
 use Rattle.buffers.proofs.Split.{split}
 use Rattle.spec.specs.Status.{ok, Test, _when_, firstOf}
 use Rattle.spec.specs.Name.{validName}
 use Rattle.spec.specs.Record.{requireReplayProtection, sealRecord, tagOf, Sealable}
-use Rattle.spec.specs.Area.{kvFormat, rbpFormat, sized, slotCount, keep, write, editArea}
+use Rattle.spec.specs.Area.{kvFormat, rbpFormat, keep, write, editArea}
 use Rattle.spec.specs.Request.{Binding, Request}
 use Rattle.spec.specs.Decisions.{keySized, ivSized, setHeld, spaceTests, setEffect, setRequest}
 use Rattle.spec.specs.Calls.{Areas, areas, bindingOf, roomOf, storeWorld, storeSet}
 use Rattle.spec.specs.Demand2.{Undamaged}
 use Rattle.spec.proofs.World.{run-done, run-refused, accepted}
 use Rattle.spec.proofs.Set.{Ready, ready-of}
-use Rattle.slots.specs.Found.{foundIn, insertAt}
-use Rattle.slots.proofs.Edits.{found-at, insert-found, slot-there}
+use Rattle.slots.specs.Found.{foundIn, CanInsert, insertAt}
+use Rattle.slots.proofs.Edits.{insert-found, can-insert}
 use Rattle.store.specs.declared.judge.Judged.{Judged}
 use Rattle.store.specs.Parts.{areaTests, setArguments, setEarly, judged, recordWritten}
 use Rattle.store.proofs.Tests.{two-besides, areas-refuse, arguments-decide}
@@ -66,8 +66,9 @@ module _ (kv rbp key name : List ℕ) (flags : ℕ) (iv value : List ℕ) where
     pub record SetAccepted : Type 0 where
       pub key-sized : length key ≡ 16
       pub iv-sized : length iv ≡ 8
-      pub kv-slot : (sized kvFormat kv ≡ true) × (j .found .at < slotCount kvFormat kv)
-      pub rbp-slot : (sized rbpFormat rbp ≡ true) × (requireReplayProtection flags ≡ true → j .entry .at < slotCount rbpFormat rbp)
+      pub undamaged : Undamaged kv rbp
+      pub kv-slot : CanInsert kvFormat kv (j .found)
+      pub rbp-slot : requireReplayProtection flags ≡ true → CanInsert rbpFormat rbp (j .entry)
       pub name-valid : validName name ≡ true
       pub sealable : Sealable flags iv value
       pub done : (after : Areas) → after ≡ recordWritten kv rbp (j .found) (j .entry) key name flags iv value
@@ -88,12 +89,25 @@ module _ (kv rbp key name : List ℕ) (flags : ℕ) (iv value : List ℕ) where
       unfolding setHeld
       entry-found = rbp-found kv rbp name first setRest j e h refl
 
+      sane : Undamaged kv rbp
+      sane = record {
+        kv-sized = ready .kv-sound .size;
+        rbp-sized = ready .rbp-sound .size;
+        kv-intact = ready .kv-sound .good;
+        rbp-intact = ready .rbp-sound .good;
+      }
+
       abbrev r : List ℕ
       r = sealRecord key name flags iv value
 
       tag-written : cond (requireReplayProtection flags) (insertAt rbpFormat rbp (foundIn rbpFormat rbp name) name (tagOf r)) rbp
           ≡ editArea rbpFormat rbp name (cond (requireReplayProtection flags) (write (tagOf r)) keep)
-      tag-written = split (requireReplayProtection flags) (λ p. rw p (insert-found rbpFormat rbp name (tagOf r))) (λ p. rw p)
+      tag-written = split (requireReplayProtection flags)
+          (λ p. rw p (insert-found rbpFormat rbp (ready .rbp-sound .good) name (ready .choice .rbp-room p) (tagOf r)))
+          (λ p. rw p)
+
+      record-written : insertAt kvFormat kv (foundIn kvFormat kv name) name r ≡ editArea kvFormat kv name (write r)
+      record-written = insert-found kvFormat kv (ready .kv-sound .good) name (ready .choice .kv-room) r
 
       written : (after : Areas) → after ≡ recordWritten kv rbp (j .found) (j .entry) key name flags iv value
           → Left ok after ≡ storeSet kv rbp key name flags iv value
@@ -101,15 +115,16 @@ module _ (kv rbp key name : List ℕ) (flags : ℕ) (iv value : List ℕ) where
       written after w =
           ap (Left ok) w
           ∙ (λ i. Left ok (recordWritten kv rbp (record-found i) (entry-found i) key name flags iv value))
-          ∙ (λ i. Left ok (areas (insert-found kvFormat kv name r i) (tag-written i)))
+          ∙ (λ i. Left ok (areas (record-written i) (tag-written i)))
           ∙ sym (run-done storeWorld (areas kv rbp) request passed)
 
       pub set-accepted : SetAccepted
       set-accepted = record {
         key-sized = ready .key-sized;
         iv-sized = ready .iv-sized;
-        kv-slot = (ready .kv-sound .size, rw (record-found, found-at kvFormat kv name) (slot-there kvFormat kv name (ready .choice .kv-room)));
-        rbp-slot = (ready .rbp-sound .size, λ p. rw (entry-found, found-at rbpFormat rbp name) (slot-there rbpFormat rbp name (ready .choice .rbp-room p)));
+        undamaged = sane;
+        kv-slot = rw record-found (can-insert kvFormat kv (ready .kv-sound .good) name (ready .choice .kv-room));
+        rbp-slot = λ p. rw entry-found (can-insert rbpFormat rbp (ready .rbp-sound .good) name (ready .choice .rbp-room p));
         name-valid = ready .choice .name-valid;
         sealable = ready .sealable;
         done = written;

@@ -6,7 +6,7 @@
 --   authentic, fresh                 the tests for 11, and for 12 of a record with flag 8, pass
 --   downgradeTests, offsetTests      the test for 12 of a record without it, and the one for 14
 --   judged                           a call's status, and the slots that the name has, once the tests before them have passed
---   recordWritten, recordErased      card and chip, with the slots that were found written and cleared
+--   recordWritten, recordErased      card and chip, with the slots that were found written and taken out
 use mathlib.Core.Bool.{Bool, false, cond, not, _&&_}
 use mathlib.Core.List.{List, [], _∷_, _++_}
 use mathlib.Core.Option.{Option, none, some}

@@ -1,4 +1,4 @@
-// Remove: the name's slot is cleared, and with replay protection the chip's too.
+// Remove: the name's slot is taken out, and with replay protection the chip's too.
 use crate::guard;
 use crate::judge;
 use crate::judge::Judged;
@@ -12,11 +12,12 @@ use slots::names;
 ghost use mathlib.Core.Path.{_≡_};
 ghost use mathlib.Core.Bool.{true};
 ghost use mathlib.Core.List.{[]};
-ghost use Prim.Native.Nat.{_<_};
-ghost use Rattle.spec.specs.Area.{kvFormat, rbpFormat, sized, slotCount, lookup};
+ghost use Rattle.spec.specs.Area.{kvFormat, rbpFormat, lookup};
 ghost use Rattle.spec.specs.Status.{firstOf};
 ghost use Rattle.spec.specs.Decisions.{removeHeld};
 ghost use Rattle.spec.specs.Calls.{storeRemove};
+ghost use Rattle.spec.specs.Demand2.{Undamaged};
+ghost use Rattle.slots.specs.Found.{CanRead};
 ghost use Rattle.store.specs.Parts.{removeEarly, given, judged, recordErased};
 
 // 1 to 3: what a remove asks before it looks the name up.
@@ -49,10 +50,10 @@ pub fn held_status(held: bool, stored: &[u8]) -> u32
     status::OK
 }
 
-// The record's slot is cleared, and with replay protection the chip's, where there is one.
+// The record's slot is taken out, and with replay protection the chip's, where there is one.
 pub fn erase_record(kv: &mut [u8], rbp: &mut [u8], found: Found, entry: Found, flags: u32)
-    requires { ⌜ (sized kvFormat (now kv) ≡ true) × (found .at < slotCount kvFormat (now kv)) ⌝ }
-    requires { ⌜ (sized rbpFormat (now rbp) ≡ true) × (entry .held ≡ true → entry .at < slotCount rbpFormat (now rbp)) ⌝ }
+    requires { ⌜ Undamaged (now kv) (now rbp) ⌝ }
+    requires { ⌜ (found .held ≡ true) × (CanRead kvFormat (now kv) found) × (CanRead rbpFormat (now rbp) entry) ⌝ }
     ensures { λ _. ⌜ record { kv = now (kv .exit); rbp = now (rbp .exit) } ≡ recordErased (now (kv .entry)) (now (rbp .entry)) found entry flags ⌝ }
 {
     areas::erase_at(AreaKind::Kv, kv, found);

@@ -14,13 +14,14 @@ use slots::names;
 ghost use mathlib.Core.Path.{_≡_};
 ghost use mathlib.Core.Bool.{true};
 ghost use mathlib.Core.List.{[], _++_};
-ghost use Prim.Native.Nat.{_<_};
-ghost use Rattle.spec.specs.Area.{kvFormat, rbpFormat, sized, slotCount};
+ghost use Rattle.spec.specs.Area.{kvFormat, rbpFormat};
 ghost use Rattle.spec.specs.Name.{validName};
 ghost use Rattle.spec.specs.Record.{requireReplayProtection, Sealable};
 ghost use Rattle.spec.specs.Status.{firstOf};
 ghost use Rattle.spec.specs.Decisions.{setHeld, spaceTests};
 ghost use Rattle.spec.specs.Calls.{bindingOf, roomOf, storeSet};
+ghost use Rattle.spec.specs.Demand2.{Undamaged};
+ghost use Rattle.slots.specs.Found.{CanInsert};
 ghost use Rattle.store.specs.Parts.{setArguments, setEarly, bindingGiven, judged, recordWritten};
 
 // 3 to 5.
@@ -110,8 +111,8 @@ pub fn write_record(
     iv: [u8; 8],
     data: &[u8],
 )
-    requires { ⌜ (sized kvFormat (now kv) ≡ true) × (found .at < slotCount kvFormat (now kv)) ⌝ }
-    requires { ⌜ (sized rbpFormat (now rbp) ≡ true) × (requireReplayProtection flags ≡ true → entry .at < slotCount rbpFormat (now rbp)) ⌝ }
+    requires { ⌜ Undamaged (now kv) (now rbp) ⌝ }
+    requires { ⌜ (CanInsert kvFormat (now kv) found) × (requireReplayProtection flags ≡ true → CanInsert rbpFormat (now rbp) entry) ⌝ }
     requires { ⌜ (validName (now name) ≡ true) × (Sealable flags iv (now «data»)) ⌝ }
     ensures { λ _. ⌜ record { kv = now (kv .exit); rbp = now (rbp .exit) } ≡ recordWritten (now (kv .entry)) (now (rbp .entry)) found entry «device_key» (now (name .entry)) flags iv (now («data» .entry)) ⌝ }
 {

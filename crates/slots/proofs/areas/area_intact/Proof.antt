@@ -1,32 +1,130 @@
--- `slots::areas::area_intact`: every slot well shaped, then no name twice.
-use mathlib.Core.Path.{sym, _∙_}
+-- `slots::areas::area_intact`. The invariant: the slot before i is well shaped, and from there on the area is in order just where it is intact.
+use mathlib.Core.Path.{_≡_, sym, ap, _∙_}
+use mathlib.Core.Bool.{true, _&&_}
+use Prim.Native.Nat.{_+_, _-_, _≤_}
+use native.Mathlib.Omega.{arith}
 use borrow.Author.Tests.{not-true, not-false}
+use Rattle.buffers.proofs.Split.{both}
+use Rattle.spec.specs.Area.{slotValid, intact}
+use Rattle.spec.proofs.Area.{sized-parts}
+use Rattle.slots.specs.Kind.{formatOf}
+use Rattle.slots.specs.Found.{slotAt}
+use Rattle.slots.proofs.AreaLaws.{slot-sized}
+use Rattle.slots.proofs.Order.{chained, intact-chain, chain-turn, chain-end}
 use borrow.Author.Needs.{needs}
-use Rattle.spec.specs.Area.{intact}
 use Rattle.slots.proofs.areas.area_intact.Statement.{statement}
 use Rattle.slots.proofs.areas.area_intact.Tie as tie
 
-slots-valid-requires : tie.Need-slots-valid-requires
-slots-valid-requires c κs = search needs
+abbrev Inv-loop : tie.InvT-loop
+Inv-loop kind area k i₀ i =
+    let F = formatOf kind in
+    (1 ≤ i) × (i ≤ k) × (slotValid F (slotAt F area (i - 1)) ≡ true) × (chained F area (i - 1) ≡ intact F area)
 
-returns : tie.Need-returns
-unfolding intact
+abbrev μ-loop : tie.MeasureT-loop
+μ-loop kind area k i₀ i = k - i
+
+slot-count-requires : tie.Need-slot-count-requires Inv-loop μ-loop
+slot-count-requires c κs = search needs
+
+slot-at-requires : tie.Need-slot-at-requires Inv-loop μ-loop
+slot-at-requires c κs =
+    let start = c .before .before in
+    let args = start .args in
+    (start .pre, sized-parts (formatOf (args .kind)) (args .area .now) (start .pre) .1)
+
+slot-valid-requires : tie.Need-slot-valid-requires Inv-loop μ-loop
+slot-valid-requires c κs =
+    let start = c .before .before .before in
+    let args = start .args in
+    let F = formatOf (args .kind) in
+    let l = args .area .now in
+    slot-sized F l (start .pre) 0 (sized-parts F l (start .pre) .1) (c .slot-at .result .now) (c .slot-at .ensures)
+
+returns : tie.Need-returns Inv-loop μ-loop
 returns c =
-    let slots-valid = c .before .slots-valid in
-    rw (sym (slots-valid .ensures) ∙ not-true (slots-valid .result) (c .if1 .taken))
+    let start = c .before .before .before .before .before in
+    let F = formatOf (start .args .kind) in
+    let l = start .args .area .now in
+    let valid = c .before .slot-valid in
+    let not-well = ap (slotValid F) (sym (c .before .before .slot-at .ensures)) ∙ sym (valid .ensures) ∙ not-true (valid .result) (c .if1 .taken) in
+    sym (intact-chain F l (start .pre) ∙ rw not-well)
 
-names-distinct-requires : tie.Need-names-distinct-requires
-names-distinct-requires c κs =
-    let pre = c .before .before .before .pre in
-    let slots-valid = c .before .slots-valid in
-    (pre, sym (slots-valid .ensures) ∙ not-false (slots-valid .result) (c .if1 .left))
+loop-holds : tie.Need-loop-holds Inv-loop μ-loop
+loop-holds c =
+    let start = c .before .before .before .before .before in
+    let F = formatOf (start .args .kind) in
+    let l = start .args .area .now in
+    let valid = c .before .slot-valid in
+    let well = ap (slotValid F) (sym (c .before .before .slot-at .ensures)) ∙ sym (valid .ensures) ∙ not-false (valid .result) (c .if1 .left) in
+    let count = c .before .before .before .slot-count .ensures in
+    let some = sized-parts F l (start .pre) .1 in
+    (omega arith, rw count some, well, sym (intact-chain F l (start .pre) ∙ rw well))
 
-returns-2 : tie.Need-returns-2
-unfolding intact
+slot-follows-requires : tie.Need-slot-follows-requires Inv-loop μ-loop
+slot-follows-requires c κs =
+    let start = c .before .before .before .before .before .before .before in
+    let count = c .before .before .before .before .before .slot-count in
+    let inv = c .before .loop .inv in
+    ((start .pre, rw (count .ensures) at (c .loop-test .taken)), (inv .0, inv .2))
+
+-- what the slot in hand decides of those that are left
+turn : (c : tie.After-slot-follows Inv-loop μ-loop) → let args = c .before .before .before .before .before .before .before .before .args in
+    let F = formatOf (args .kind) in
+    let i = c .before .before .loop .i in
+    chained F (args .area .now) (i - 1) ≡ (c .slot-follows .result && chained F (args .area .now) i)
+turn c =
+    let args = c .before .before .before .before .before .before .before .before .args in
+    let count = c .before .before .before .before .before .before .slot-count in
+    let loop = c .before .before .loop in
+    chain-turn (formatOf (args .kind)) (args .area .now) (loop .i) (loop .inv .0) (rw (count .ensures) at (c .before .loop-test .taken))
+    ∙ rw (sym (c .slot-follows .ensures))
+
+returns-2 : tie.Need-returns-2 Inv-loop μ-loop
 returns-2 c =
-    let slots-valid = c .before .before .slots-valid in
-    rw (sym (slots-valid .ensures) ∙ not-false (slots-valid .result) (c .before .if1 .left)) (c .names-distinct .ensures)
+    let inv = c .before .before .before .loop .inv in
+    sym (sym (inv .3) ∙ turn (c .before) ∙ rw (not-true (c .before .slot-follows .result) (c .if2 .taken)))
+
+add-i : tie.Need-add-i Inv-loop μ-loop
+add-i c = search needs
+
+loop-less : tie.Need-loop-less Inv-loop μ-loop
+loop-less c = search needs
+
+loop-again : tie.Need-loop-again Inv-loop μ-loop
+loop-again c =
+    let start = c .before .before .before .before .before .before .before .before .before in
+    let F = formatOf (start .args .kind) in
+    let l = start .args .area .now in
+    let loop = c .before .before .before .loop in
+    let i = loop .i in
+    let follows = not-false (c .before .slot-follows .result) (c .if2 .left) in
+    let e : i + 1 - 1 ≡ i = omega arith in
+    let well = both (slotValid F (slotAt F l i)) _ (sym (c .before .slot-follows .ensures) ∙ follows) .0 in
+    let rest : chained F l i ≡ intact F l = sym (turn (c .before) ∙ rw follows) ∙ loop .inv .3 in
+    (omega arith, omega arith, rw e well, rw e rest)
+
+returns-3 : tie.Need-returns-3 Inv-loop μ-loop
+returns-3 c =
+    let start = c .before .before .before .before .before .before .before in
+    let loop = c .before .loop in
+    let count = c .before .before .before .before .before .slot-count .ensures in
+    let past = rw count at (c .loop-test .left) in
+    sym (chain-end (formatOf (start .args .kind)) (start .args .area .now) (loop .i - 1) (omega arith)) ∙ loop .inv .3
 
 pub area-intact-spec : {M : Type 1} → statement M
 area-intact-spec =
-    tie.close (tie.spec slots-valid-requires returns names-distinct-requires returns-2)
+    tie.close
+    (tie.spec
+    Inv-loop
+    μ-loop
+    slot-count-requires
+    slot-at-requires
+    slot-valid-requires
+    returns
+    loop-holds
+    slot-follows-requires
+    returns-2
+    add-i
+    loop-less
+    loop-again
+    returns-3)

@@ -1,45 +1,37 @@
--- `slots::names::valid_name_bytes`. The invariant: what is left is valid just where the whole is.
-use mathlib.Core.Path.{_≡_, refl, sym, _∙_}
-use mathlib.Core.Bool.{_&&_}
+-- `slots::names::valid_name_bytes`. The invariant: what was seen has no fault, and the rest has none, just where the whole has none.
+use mathlib.Core.Path.{_≡_, refl, sym, ap, _∙_}
+use mathlib.Core.Bool.{Bool, true, false, cond, _&&_, and-assoc}
 use mathlib.Core.List.{[]}
-use Prim.Native.Nat.{_+_, _-_, _≤_}
+use Prim.Native.Nat.{ℕ, _+_, _-_, _≤_}
 use native.Mathlib.Omega.{arith}
-use borrow.Author.Tests.{not-true, not-false}
 use borrow.Author.Needs.{needs}
-use lib.ListN.{length, drop, drop-of-length-le}
+use lib.Dec.{eqb}
+use lib.ListN.{length, getD, drop, drop-of-length-le}
 use Rattle.buffers.specs.Bytes.{every}
+use Rattle.buffers.proofs.Folds.{and-true, or-test}
 use Rattle.spec.specs.Name.{validNameByte}
 use Rattle.slots.proofs.Turns.{every-turn}
 use Rattle.slots.proofs.names.valid_name_bytes.Statement.{statement}
 use Rattle.slots.proofs.names.valid_name_bytes.Tie as tie
 
+fault-test : (b : Bool) → eqb (cond b 0 1) 0 ≡ b
+fault-test true = refl
+fault-test false = refl
+
 abbrev Inv-loop : tie.InvT-loop
-Inv-loop s i₀ i = (i ≤ length s) × (every validNameByte (drop i s) ≡ every validNameByte s)
+Inv-loop s faults₀ i₀ faults i = (i ≤ length s) × ((eqb faults 0 && every validNameByte (drop i s)) ≡ every validNameByte s)
 
 abbrev μ-loop : tie.MeasureT-loop
-μ-loop s i₀ i = length s - i
+μ-loop s faults₀ i₀ faults i = length s - i
 
 loop-holds : tie.Need-loop-holds Inv-loop μ-loop
 loop-holds c = (search needs, refl)
 
-shared-slice-read-valid-name-byte : tie.Need-shared-slice-read-valid-name-byte Inv-loop μ-loop
-shared-slice-read-valid-name-byte c = search needs
+shared-slice-read-name-byte-fault : tie.Need-shared-slice-read-name-byte-fault Inv-loop μ-loop
+shared-slice-read-name-byte-fault c = search needs
 
-valid-name-byte-requires : tie.Need-valid-name-byte-requires Inv-loop μ-loop
-valid-name-byte-requires c κs = search needs
-
--- what the byte in hand decides of those that are left
-turn : (c : tie.After-valid-name-byte Inv-loop μ-loop) → let s = c .before .before .before .before .before .args .s .now in
-    let i = c .before .before .before .loop .i in
-    every validNameByte (drop i s) ≡ (c .valid-name-byte .result && every validNameByte (drop (i + 1) s))
-turn c =
-    let s = c .before .before .before .before .before .args .s .now in
-    every-turn 0 validNameByte s (c .before .before .before .loop .i) (c .before .before .loop-test .taken) ∙ rw (sym (c .valid-name-byte .ensures))
-
-returns : tie.Need-returns Inv-loop μ-loop
-returns c =
-    let inv = c .before .before .before .before .loop .inv in
-    sym (sym (inv .1) ∙ turn (c .before) ∙ rw (not-true (c .before .valid-name-byte .result) (c .if1 .taken)))
+name-byte-fault-requires : tie.Need-name-byte-fault-requires Inv-loop μ-loop
+name-byte-fault-requires c κs = search needs
 
 add-i : tie.Need-add-i Inv-loop μ-loop
 add-i c = search needs
@@ -49,16 +41,24 @@ loop-less c = search needs
 
 loop-again : tie.Need-loop-again Inv-loop μ-loop
 loop-again c =
-    let inv = c .before .before .before .before .loop .inv in
-    (omega arith, sym (turn (c .before) ∙ rw (not-false (c .before .valid-name-byte .result) (c .if1 .left))) ∙ inv .1)
+    let l = c .before .before .before .loop in
+    let s = c .before .before .before .before .before .args .s .now in
+    let fault = c .name-byte-fault .result in
+    let rest = every validNameByte (drop (l .i + 1) s) in
+    let good = ap (λ (n : ℕ). eqb n 0) (c .name-byte-fault .ensures) ∙ fault-test (validNameByte (getD s (l .i) 0)) in
+    let joined = or-test (l .faults) fault ∙ ap (λ (b : Bool). eqb (l .faults) 0 && b) good in
+    let turn = every-turn 0 validNameByte s (l .i) (c .before .before .loop-test .taken) in (
+      omega arith,
+      ap (λ (b : Bool). b && rest) joined ∙ and-assoc (eqb (l .faults) 0) (validNameByte (getD s (l .i) 0)) rest
+          ∙ ap (λ (b : Bool). eqb (l .faults) 0 && b) (sym turn) ∙ l .inv .1,
+    )
 
-returns-2 : tie.Need-returns-2 Inv-loop μ-loop
-returns-2 c =
-    let args = c .before .before .before .args in
-    let loop = c .before .loop in
-    let s = args .s .now in
-    let end : drop (loop .i) s ≡ [] = drop-of-length-le s {i = loop .i} (omega arith) in
-    rw end at (loop .inv .1)
+returns : tie.Need-returns Inv-loop μ-loop
+returns c =
+    let l = c .before .loop in
+    let s = c .before .before .before .args .s .now in
+    let end : drop (l .i) s ≡ [] = drop-of-length-le s {i = l .i} (omega arith) in
+    sym (and-true (eqb (l .faults) 0)) ∙ rw end at (l .inv .1)
 
 pub valid-name-bytes-spec : {M : Type 1} → statement M
 valid-name-bytes-spec =
@@ -67,10 +67,9 @@ valid-name-bytes-spec =
     Inv-loop
     μ-loop
     loop-holds
-    shared-slice-read-valid-name-byte
-    valid-name-byte-requires
-    returns
+    shared-slice-read-name-byte-fault
+    name-byte-fault-requires
     add-i
     loop-less
     loop-again
-    returns-2)
+    returns)

@@ -61,8 +61,9 @@ held-status-requires c κs =
     let payload-at2 = c .before .payload-at2 in
     let rbp = args .rbp .now in
     let n = args .name .now in
+    let u = get-sane (args .kv .now) rbp (args .device-key .now) n (start .pre) in
     let entry = held-is rbpFormat rbp n (find2 .result) (find2 .ensures) in
-    let tag = payload-is rbpFormat rbp n (find2 .result) (find2 .ensures) _ (payload-at2 .ensures) in
+    let tag = payload-is rbpFormat rbp n (find2 .result) (find2 .ensures) (u .rbp-intact) _ (payload-at2 .ensures) in
     λ h. tag-sized rbp n _ (sym entry ∙ h) tag
 
 returns : tie.Need-returns
@@ -81,10 +82,13 @@ returns c =
     let key = args .device-key .now in
     let n = args .name .now in
     let tests = getHeld requireReplayProtection in
+    let u = get-sane kv rbp key n (start .pre) in
     let known = held-is kvFormat kv n (find .result) (find .ensures) in
     let entry = held-is rbpFormat rbp n (find2 .result) (find2 .ensures) in
-    let stored = given-is (lookup kvFormat kv n) _ _ known (payload-is kvFormat kv n (find .result) (find .ensures) _ (payload-at .ensures)) in
-    let tag = given-is (lookup rbpFormat rbp n) _ _ entry (payload-is rbpFormat rbp n (find2 .result) (find2 .ensures) _ (payload-at2 .ensures)) in
+    let p = payload-is kvFormat kv n (find .result) (find .ensures) (u .kv-intact) _ (payload-at .ensures) in
+    let q = payload-is rbpFormat rbp n (find2 .result) (find2 .ensures) (u .rbp-intact) _ (payload-at2 .ensures) in
+    let stored = given-is (lookup kvFormat kv n) _ _ known p in
+    let tag = given-is (lookup rbpFormat rbp n) _ _ entry q in
     let status = held-status .ensures ∙ λ i. firstOf (tests (array16 .ensures i) n (args .offset) (record { stored = stored i; tag = tag i })) in
     judged-here kv rbp n (getEarly kv rbp key n) (tests key n (args .offset) (bindingOf kv rbp n)) refl (start .pre) _
     (find .result) (find2 .result) status (find .ensures) (find2 .ensures)

@@ -14,7 +14,7 @@ erase-at-requires-2 c κs =
     let both = c .before .before .both in
     let if1 = c .before .if1 in
     let h = halves (require-replay-protection .result) (args .entry .held) (sym (both .ensures) ∙ if1 .taken) in
-    (pre .1 .0, pre .1 .1 (h .1))
+    ((pre .0 .rbp-sized, pre .0 .rbp-intact), (h .1, pre .1 .2))
 
 returns : tie.Need-returns
 returns c =
@@ -35,7 +35,9 @@ returns-2 c =
     rw (← require-replay-protection .ensures, sym (both .ensures) ∙ c .if1 .left) (λ i. areas (erase-at .ensures i) (args .rbp .now))
 
 erase-at-requires : tie.Need-erase-at-requires
-erase-at-requires c κs = search needs
+erase-at-requires c κs =
+    let pre = c .before .before .before .pre in
+    ((pre .0 .kv-sized, pre .0 .kv-intact), (pre .1 .0, pre .1 .1))
 
 require-replay-protection-requires : tie.Need-require-replay-protection-requires
 require-replay-protection-requires c κs = search needs

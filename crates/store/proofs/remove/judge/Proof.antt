@@ -63,7 +63,8 @@ returns-2 c =
     let rbp = args .rbp .now in
     let n = args .name .now in
     let known = held-is kvFormat kv n (find .result) (find .ensures) in
-    let stored = payload-is kvFormat kv n (find .result) (find .ensures) _ (payload-at .ensures) in
+    let u = remove-sane kv rbp n (sym (early-status .ensures) ∙ if1 .left) in
+    let stored = payload-is kvFormat kv n (find .result) (find .ensures) (u .kv-intact) _ (payload-at .ensures) in
     let has = given-is (lookup kvFormat kv n) _ _ known stored in
     let status = c .held-status .ensures ∙ ap (λ (o : Option (List ℕ)). firstOf (removeHeld o)) has in
     judged-here kv rbp n (removeEarly kv rbp n) (removeHeld (lookup kvFormat kv n)) refl (sym (early-status .ensures) ∙ if1 .left) _

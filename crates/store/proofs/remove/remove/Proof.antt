@@ -1,4 +1,4 @@
--- `store::remove::remove`: what the judgement says, then the slots are cleared.
+-- `store::remove::remove`: what the judgement says, then the slots are taken out.
 use borrow.Author.Needs.{needs}
 use Rattle.store.proofs.RemoveCall.{remove-refused, remove-accepted}
 use Rattle.store.proofs.remove.remove.Statement.{statement}
@@ -32,7 +32,7 @@ erase-record-requires c κs =
     let judge = c .before .before .before .before .before .before .before .judge in
     let if1 = c .before .before .before .before .before .if1 in
     let a = remove-accepted (args .kv .now) (args .rbp .now) (args .name .now) (judge .result) (judge .ensures) (if1 .left) in
-    (a .kv-slot, a .rbp-slot)
+    (a .undamaged, (a .held, a .kv-found .1, a .rbp-found))
 
 returns-2 : tie.Need-returns-2
 returns-2 c =

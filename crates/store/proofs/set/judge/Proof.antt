@@ -97,7 +97,8 @@ returns-2 c =
     let known = held-is kvFormat kv n (find .result) (find .ensures) in
     let entry = held-is rbpFormat rbp n (find2 .result) (find2 .ensures) in
     let r = payload-at .result .now in
-    let stored = payload-is kvFormat kv n (find .result) (find .ensures) r (payload-at .ensures) in
+    let u = set-sane kv rbp (args .device-key .now) n flags (args .iv .now) (args .«data» .now) (sym (early-status .ensures) ∙ if1 .left) in
+    let stored = payload-is kvFormat kv n (find .result) (find .ensures) (u .kv-intact) r (payload-at .ensures) in
     let h = find .result .held in
     let t = find2 .result .held in
     let held = held-status .ensures ∙ set-held flags b h t entry r known stored in
@@ -105,7 +106,8 @@ returns-2 c =
     let room : free ≡ roomOf kv rbp = λ i. record { kv = has-space .ensures i; rbp = has-space2 .ensures i } in
     let tests : Room → List Test = spaceTests requireReplayProtection flags b in
     let space = space-status .ensures ∙ set-space flags b h t entry free known ∙ ap (λ (r : Room). firstOf (tests r)) room in
-    let status = c .first .ensures ∙ in-order (setHeld requireReplayProtection flags b) (tests (roomOf kv rbp)) (held-status .result) (space-status .result) refl held space in
+    let own = setHeld requireReplayProtection flags b in
+    let status = c .first .ensures ∙ in-order own (tests (roomOf kv rbp)) (held-status .result) (space-status .result) refl held space in
     judged-here kv rbp n first rest refl (sym (early-status .ensures) ∙ if1 .left) (c .first .result)
     (find .result) (find2 .result) status (find .ensures) (find2 .ensures)
 

@@ -38,7 +38,7 @@ write-record-requires c κs =
     let array8 = c .before .before .array8 in
     let a = set-accepted (args .kv .now) (args .rbp .now) (args .device-key .now) (args .name .now) (args .flags) (args .iv .now) (args .«data» .now)
     (judge .result) (judge .ensures) (if1 .left) in
-    (a .kv-slot, (a .rbp-slot, (a .name-valid, rw (array8 .ensures) (a .sealable))))
+    (a .undamaged, ((a .kv-slot, a .rbp-slot), (a .name-valid, rw (array8 .ensures) (a .sealable))))
 
 returns-2 : tie.Need-returns-2
 returns-2 c =

@@ -25,7 +25,7 @@ insert-at-requires c κs =
     let r = sealRecord (args .device-key) (args .name .now) (args .flags) (args .iv) (args .«data» .now) in
     let e = sealed-length (args .device-key) (args .name .now) (args .flags) (args .iv) (args .«data» .now) ready in
     let part = front-part r (zeros (516 - length r)) _ e in
-    (pre .0, (valid-length (args .name .now) (pre .1 .1 .0), rw (seal-record .ensures, part) (omega arith)))
+    ((pre .0 .kv-sized, pre .0 .kv-intact, pre .1 .0 .0), (valid-length (args .name .now) (pre .1 .1 .0), rw (seal-record .ensures, part) (omega arith)))
 
 insert-at-requires-2 : tie.Need-insert-at-requires-2
 insert-at-requires-2 c κs =
@@ -38,7 +38,7 @@ insert-at-requires-2 c κs =
     let r = sealRecord (args .device-key) (args .name .now) (args .flags) (args .iv) (args .«data» .now) in
     let e = sealed-length (args .device-key) (args .name .now) (args .flags) (args .iv) (args .«data» .now) (pre .1 .1 .1) in
     let part = tail-part r (zeros (516 - length r)) _ e (omega arith) in (
-      (pre .1 .0 .0, pre .1 .0 .1 (sym (require-replay-protection .ensures) ∙ if1 .taken)),
+      (pre .0 .rbp-sized, pre .0 .rbp-intact, pre .1 .0 .1 (sym (require-replay-protection .ensures) ∙ if1 .taken)),
       (valid-length (args .name .now) (pre .1 .1 .0), rw (seal-record .ensures, part) (simp length-drop (omega arith))),
     )
 
