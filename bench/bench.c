@@ -15,6 +15,7 @@ uint32_t reference_set(uint8_t *kv, size_t kv_len, uint8_t *rbp, size_t rbp_len,
                        size_t name_len, uint32_t flags, const uint8_t *iv, size_t iv_len, const uint8_t *data, size_t data_len);
 uint32_t reference_get(const uint8_t *kv, size_t kv_len, const uint8_t *rbp, size_t rbp_len, const uint8_t *device_key, size_t device_key_len,
                        const uint8_t *name, size_t name_len, size_t offset, uint8_t *output, size_t output_len, size_t *count);
+uint32_t reference_remove(uint8_t *kv, size_t kv_len, uint8_t *rbp, size_t rbp_len, const uint8_t *name, size_t name_len);
 #endif
 
 #define SLICE 100e-6
@@ -164,16 +165,18 @@ struct store {
                     const uint8_t *, size_t);
     uint32_t (*get)(const uint8_t *, size_t, const uint8_t *, size_t, const uint8_t *, size_t, const uint8_t *, size_t, size_t, uint8_t *, size_t,
                     size_t *);
+    uint32_t (*remove)(uint8_t *, size_t, uint8_t *, size_t, const uint8_t *, size_t);
 };
 
 static const struct store STORES[] = {
-    {"plain C", plain_set, plain_get},
-    {"**securestore**", securestore_set, securestore_get},
+    {"plain C", plain_set, plain_get, plain_remove},
+    {"**securestore**", securestore_set, securestore_get, securestore_remove},
 #ifdef WITH_REFERENCE
-    {"Rust of tests/", reference_set, reference_get},
+    {"Rust of tests/", reference_set, reference_get, reference_remove},
 #endif
 };
 #define STORE_COUNT (sizeof STORES / sizeof STORES[0])
+enum { PLAIN, OURS };
 
 static const size_t SIZES[] = {1, 2, 4, 8, 16, 32, 64};
 #define SIZE_COUNT (sizeof SIZES / sizeof SIZES[0])
@@ -206,7 +209,14 @@ static uint32_t get_in(const struct box *b, size_t i, uint8_t *output, size_t *c
     return b->store->get(b->kv, b->slots * 584, b->rbp, b->slots * 82, KEY, 16, name, 16, 0, output, sizeof data, count);
 }
 
-/* The last name, so that every slot is looked at before it is found. */
+static uint32_t remove_in(const struct box *b, size_t i)
+{
+    uint8_t name[16];
+    name_of(i, name);
+    return b->store->remove(b->kv, b->slots * 584, b->rbp, b->slots * 82, name, 16);
+}
+
+/* The last name, so that a look-up that goes from slot to slot has looked at each. */
 static void work_set(const void *of)
 {
     const struct box *b = (const struct box *)of;
@@ -221,21 +231,34 @@ static void work_get(const void *of)
     get_in(b, b->slots - 1, output, &count);
 }
 
-static struct box fill(const struct store *store, size_t slots)
+static struct box empty(const struct store *store, size_t slots)
 {
     struct box b;
-    size_t i, count;
-    uint8_t output[480];
     b.store = store;
     b.slots = slots;
     b.kv = (uint8_t *)calloc(slots, 584);
     b.rbp = (uint8_t *)calloc(slots, 82);
     must(b.kv != NULL && b.rbp != NULL, "memory", store->name);
+    return b;
+}
+
+static struct box fill(const struct store *store, size_t slots)
+{
+    struct box b = empty(store, slots);
+    size_t i, count;
+    uint8_t output[480];
     for (i = 0; i < slots; i++) {
         must(set_in(&b, i) == 0, "set", store->name);
         must(get_in(&b, i, output, &count) == 0 && count == 480 && memcmp(output, data, 480) == 0, "get", store->name);
     }
     return b;
+}
+
+/* Two boxes hold the same bytes. */
+static void must_agree(const struct box *a, const struct box *b)
+{
+    must(memcmp(a->kv, b->kv, a->slots * 584) == 0, "card", a->store->name);
+    must(memcmp(a->rbp, b->rbp, a->slots * 82) == 0, "chip", a->store->name);
 }
 
 static void print_growth(const char *call, const struct measure *all)
@@ -260,6 +283,26 @@ static void print_growth(const char *call, const struct measure *all)
     printf("\n\n");
 }
 
+/* What the tests, and a longer look-up, cost: the call on 64 names less the same call on one, with the same ciphers. */
+static void print_beyond(const struct measure *get, const struct measure *set)
+{
+    const struct measure *calls[2];
+    double us[2][2];
+    size_t i, j;
+    calls[0] = get;
+    calls[1] = set;
+    printf("| what 64 names cost beyond one name, microseconds | get | set |\n|---|---|---|\n");
+    for (i = PLAIN; i <= OURS; i++) {
+        printf("| %s |", STORES[i].name);
+        for (j = 0; j < 2; j++) {
+            us[i][j] = (calls[j][i * SIZE_COUNT + SIZE_COUNT - 1].best - calls[j][i * SIZE_COUNT].best) * 1e6;
+            printf(" %.2f |", us[i][j]);
+        }
+        printf("\n");
+    }
+    printf("| securestore of plain C (target: at most 1.1) | %.2f | %.2f |\n\n", us[OURS][0] / us[PLAIN][0], us[OURS][1] / us[PLAIN][1]);
+}
+
 static void growth(void)
 {
     static struct box boxes[STORE_COUNT * SIZE_COUNT];
@@ -269,8 +312,7 @@ static void growth(void)
         for (j = 0; j < SIZE_COUNT; j++) {
             size_t at = i * SIZE_COUNT + j;
             boxes[at] = fill(&STORES[i], SIZES[j]);
-            must(memcmp(boxes[at].kv, boxes[j].kv, SIZES[j] * 584) == 0, "card", STORES[i].name);
-            must(memcmp(boxes[at].rbp, boxes[j].rbp, SIZES[j] * 82) == 0, "chip", STORES[i].name);
+            must_agree(&boxes[at], &boxes[j]);
             all[at].work = work_get;
             all[n + at].work = work_set;
             all[at].of = all[n + at].of = &boxes[at];
@@ -279,47 +321,108 @@ static void growth(void)
     run(all, 2 * n, 1000);
     print_growth("get", all);
     print_growth("set", all + n);
+    print_beyond(all, all + n);
+}
+
+/* ---- a new name, and a name that goes, at the front of 64 slots */
+
+/* Insert and remove alternate on one box, each with a clock of its own: the insert finds the 63 names behind it and fills card and chip, the remove of that
+ * name leaves the 63 again. So nothing has to be put back, and what reading the clock costs, some 30 ns, is in every time alike. */
+struct front {
+    struct box box;
+    double insert, remove; /* the best times of one */
+};
+
+static void slice_front(struct front *f)
+{
+    double insert = 0, remove = 0, start, between, end;
+    unsigned pairs = 0;
+    do {
+        start = now();
+        set_in(&f->box, 0);
+        between = now();
+        remove_in(&f->box, 0);
+        end = now();
+        insert += between - start;
+        remove += end - between;
+        pairs++;
+    } while (insert + remove < 2 * SLICE);
+    f->insert = insert / pairs < f->insert ? insert / pairs : f->insert;
+    f->remove = remove / pairs < f->remove ? remove / pairs : f->remove;
+}
+
+static void print_front(const char *what, size_t i, double plain, double time)
+{
+    printf("| %s | %s | %.1f | %.2f |\n", what, STORES[i].name, time * 1e6, time / plain);
+}
+
+static void front(void)
+{
+    struct front all[STORE_COUNT];
+    struct box full = fill(&STORES[PLAIN], 64), backwards;
+    size_t i, j, rounds;
+    for (i = 0; i < STORE_COUNT; i++) {
+        /* each name set at the front of those that are there: the image is that of the names set in order */
+        backwards = empty(&STORES[i], 64);
+        for (j = 64; 0 < j; j--) {
+            must(set_in(&backwards, j - 1) == 0, "insert", STORES[i].name);
+        }
+        must_agree(&backwards, &full);
+        all[i].box = backwards;
+        all[i].insert = all[i].remove = 1;
+        must(remove_in(&all[i].box, 0) == 0, "remove", STORES[i].name);
+        must_agree(&all[i].box, &all[PLAIN].box);
+    }
+    for (rounds = 0; rounds < 1000; rounds++) {
+        for (i = 0; i < STORE_COUNT; i++) {
+            slice_front(&all[i]);
+        }
+    }
+    for (i = 0; i < STORE_COUNT; i++) {
+        must_agree(&all[i].box, &all[PLAIN].box);
+    }
+    printf("| at the front of 64 slots, flags 14, 480 bytes | | microseconds | of plain C |\n|---|---|---|---|\n");
+    for (i = 0; i < STORE_COUNT; i++) {
+        print_front("insert before 63 names", i, all[PLAIN].insert, all[i].insert);
+    }
+    for (i = 0; i < STORE_COUNT; i++) {
+        print_front("remove of the first of 64 names", i, all[PLAIN].remove, all[i].remove);
+    }
+    printf("\n");
 }
 
 /* ---- where the time of a get on 64 names goes */
 
-/* Names of 64 lengths differ in their length, so that no two of them are compared byte by byte. */
-static void set_lengths(const struct box *b)
-{
-    uint8_t name[64];
-    size_t i;
-    memset(name, 'n', sizeof name);
-    memset(b->kv, 0, b->slots * 584);
-    memset(b->rbp, 0, b->slots * 82);
-    for (i = 1; i <= b->slots; i++) {
-        must(b->store->set(b->kv, b->slots * 584, b->rbp, b->slots * 82, KEY, 16, name, i, 14, IV, 8, data, sizeof data) == 0, "set", b->store->name);
-    }
-}
-
-/* The tests on card and chip alone: a walk that finds no name. */
-static void work_tests(const void *of)
+/* The tests on card and chip and the look-up alone: a get of a name that is not there, behind all that are. */
+static void work_absent(const void *of)
 {
     const struct box *b = (const struct box *)of;
-    uint8_t name[64];
-    size_t len, next;
-    securestore_iterator_next(b->kv, b->slots * 584, b->rbp, b->slots * 82, (const uint8_t *)"~", 1, 0, name, sizeof name, &len, &next);
+    uint8_t output[480];
+    size_t count;
+    get_in(b, 64, output, &count);
 }
 
 static void parts(void)
 {
-    struct box one = fill(&STORES[1], 1), same = fill(&STORES[1], 64), other = fill(&STORES[1], 64);
-    struct measure all[4] = {{work_get, NULL, 1, 0}, {work_tests, NULL, 1, 0}, {work_tests, NULL, 1, 0}, {work_tests, NULL, 1, 0}};
-    set_lengths(&other);
-    all[0].of = &same;
-    all[1].of = &same;
-    all[2].of = &other;
-    all[3].of = &one;
-    run(all, 4, 2000);
-    printf("| part of a securestore get of 480 bytes on 64 names | microseconds |\n|---|---|\n");
-    printf("| all of it | %.1f |\n", all[0].best * 1e6);
-    printf("| no two slots hold one name, beyond comparing lengths | %.1f |\n", (all[1].best - all[2].best) * 1e6);
-    printf("| the other tests on card and chip | %.1f |\n", all[2].best * 1e6);
-    printf("| finding, judging and decrypting the record | %.1f |\n\n", (all[0].best - all[1].best) * 1e6);
+    static struct box full[2], none[2];
+    struct measure all[6];
+    uint8_t output[480];
+    size_t i, count;
+    for (i = PLAIN; i <= OURS; i++) {
+        full[i] = fill(&STORES[i], 64);
+        none[i] = empty(&STORES[i], 64);
+        must(get_in(&full[i], 64, output, &count) == 6 && get_in(&none[i], 64, output, &count) == 6, "get of an absent name", STORES[i].name);
+        all[i].work = work_get;
+        all[2 + i].work = all[4 + i].work = work_absent;
+        all[i].of = all[2 + i].of = &full[i];
+        all[4 + i].of = &none[i];
+    }
+    run(all, 6, 2000);
+    printf("| part of a get of 480 bytes on 64 names, microseconds | plain C | securestore |\n|---|---|---|\n");
+    printf("| all of it | %.2f | %.2f |\n", all[PLAIN].best * 1e6, all[OURS].best * 1e6);
+    printf("| testing card and chip, and looking the name up | %.2f | %.2f |\n", all[2 + PLAIN].best * 1e6, all[2 + OURS].best * 1e6);
+    printf("| judging and decrypting the record | %.2f | %.2f |\n", (all[PLAIN].best - all[2 + PLAIN].best) * 1e6, (all[OURS].best - all[2 + OURS].best) * 1e6);
+    printf("| beside it: testing 64 free slots of each | %.2f | %.2f |\n\n", all[4 + PLAIN].best * 1e6, all[4 + OURS].best * 1e6);
 }
 
 /* ---- mixes: no peer has them, so they stand beside a get of one of them */
@@ -388,13 +491,11 @@ static void mixes(void)
     for (j = 0; j < MIX_COUNT; j++) {
         uint8_t mix[SECURESTORE_MIX_MAX];
         size_t count;
-        boxes[j] = fill(&STORES[1], MIXES[j]);
-        memset(boxes[j].kv, 0, MIXES[j] * 584);
-        memset(boxes[j].rbp, 0, MIXES[j] * 82);
+        boxes[j] = empty(&STORES[OURS], MIXES[j]);
         for (i = 0; i < MIXES[j]; i++) {
-            must(store_mix_in(&boxes[j], i) == 0, "store_mix", STORES[1].name);
+            must(store_mix_in(&boxes[j], i) == 0, "store_mix", STORES[OURS].name);
         }
-        must(find_mix_in(&boxes[j], MIXES[j] - 1, mix, &count) == 0 && count == sizeof mix, "find_mix", STORES[1].name);
+        must(find_mix_in(&boxes[j], MIXES[j] - 1, mix, &count) == 0 && count == sizeof mix, "find_mix", STORES[OURS].name);
         for (i = 0; i < 3; i++) {
             all[i * MIX_COUNT + j].work = works[i];
             all[i * MIX_COUNT + j].of = &boxes[j];
@@ -421,6 +522,7 @@ int main(void)
     peers_start();
     ciphers();
     growth();
+    front();
     parts();
     mixes();
     return 0;

@@ -15,5 +15,6 @@ uint32_t plain_set(uint8_t *kv, size_t kv_len, uint8_t *rbp, size_t rbp_len, con
                    size_t name_len, uint32_t flags, const uint8_t *iv, size_t iv_len, const uint8_t *data, size_t data_len);
 uint32_t plain_get(const uint8_t *kv, size_t kv_len, const uint8_t *rbp, size_t rbp_len, const uint8_t *device_key, size_t device_key_len,
                    const uint8_t *name, size_t name_len, size_t offset, uint8_t *output, size_t output_len, size_t *count);
+uint32_t plain_remove(uint8_t *kv, size_t kv_len, uint8_t *rbp, size_t rbp_len, const uint8_t *name, size_t name_len);
 
 #endif

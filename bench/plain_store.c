@@ -1,4 +1,5 @@
-/* Get and set with the store's tests in the store's order, names compared by memcmp. */
+/* Get, set and remove with the store's tests in the store's order. Used slots stand at the front in the order of their names, so names are compared with
+ * their neighbours alone, looked up by halving, and shifted by memmove. */
 #include <string.h>
 
 #include "plain.h"
@@ -63,30 +64,66 @@ static int slot_valid(const struct format *f, const uint8_t *s)
            all_zero(s + f->payload + n, f->payload_len - n);
 }
 
-static size_t find(const struct format *f, const uint8_t *area, size_t len, const uint8_t *name, size_t name_len, size_t at)
+/* Less than, equal to or greater than 0, as strcmp: unsigned bytes, a prefix first. */
+static int order(const uint8_t *a, size_t a_len, const uint8_t *b, size_t b_len)
 {
-    for (; at < len; at += f->slot) {
-        if (area[at] == 1 && area[at + 1] == name_len && memcmp(area + at + f->name, name, name_len) == 0) {
-            return at;
-        }
-    }
-    return len;
+    int by_bytes = memcmp(a, b, a_len < b_len ? a_len : b_len);
+    return by_bytes != 0 ? by_bytes : (int)a_len - (int)b_len;
 }
 
-static int intact(const struct format *f, const uint8_t *area, size_t len)
+static int slots_ordered(const struct format *f, const uint8_t *a, const uint8_t *b)
 {
+    return order(a + f->name, a[1], b + f->name, b[1]) < 0;
+}
+
+/* What one pass over an area finds: where its used slots end; or that it is damaged. */
+#define DAMAGED ((size_t)-1)
+
+static size_t used_end(const struct format *f, const uint8_t *area, size_t len)
+{
+    size_t at, end = 0;
+    for (at = 0; at < len; at += f->slot) {
+        const uint8_t *s = area + at;
+        if (!slot_valid(f, s)) {
+            return DAMAGED;
+        }
+        if (s[0] == 1) {
+            if (end != at || (0 < at && !slots_ordered(f, s - f->slot, s))) {
+                return DAMAGED;
+            }
+            end = at + f->slot;
+        }
+    }
+    return end;
+}
+
+/* Where a name stands, or would stand, among the used slots. */
+struct place {
     size_t at;
-    for (at = 0; at < len; at += f->slot) {
-        if (!slot_valid(f, area + at)) {
-            return 0;
+    int held;
+};
+
+static struct place find(const struct format *f, const uint8_t *area, size_t end, const uint8_t *name, size_t name_len)
+{
+    struct place p = {0, 0};
+    size_t low = 0, high = end / f->slot;
+    while (low < high) {
+        size_t middle = (low + high) / 2;
+        const uint8_t *s = area + middle * f->slot;
+        int by = order(s + f->name, s[1], name, name_len);
+        if (by == 0) {
+            low = middle;
+            p.held = 1;
+            break;
+        }
+        if (by < 0) {
+            low = middle + 1;
+        } else {
+            high = middle;
         }
     }
-    for (at = 0; at < len; at += f->slot) {
-        if (area[at] == 1 && find(f, area, len, area + at + f->name, area[at + 1], at + f->slot) < len) {
-            return 0;
-        }
-    }
-    return 1;
+    p.at = low * f->slot;
+    return p;
 }
 
 static int good_flags(uint32_t flags)
@@ -138,15 +175,32 @@ static uint32_t judge(const uint8_t *r, size_t len, const uint8_t *chip_tag, con
     return chip_tag == NULL ? 0 : 12;
 }
 
-static uint32_t guard(const uint8_t *kv, size_t kv_len, const uint8_t *rbp, size_t rbp_len, int lengths, const uint8_t *name, size_t name_len)
+/* What the calls have in common: the tests of lengths, media and name, then where the name is on card and chip. */
+struct found {
+    size_t kv_end, rbp_end;
+    struct place kv, rbp;
+};
+
+static uint32_t guard(const uint8_t *kv, size_t kv_len, const uint8_t *rbp, size_t rbp_len, int lengths, const uint8_t *name, size_t name_len,
+                      struct found *found)
 {
     if (!sized(&KV, kv_len) || !sized(&RBP, rbp_len) || !lengths) {
         return 1;
     }
-    if (!intact(&KV, kv, kv_len) || !intact(&RBP, rbp, rbp_len)) {
+    found->kv_end = used_end(&KV, kv, kv_len);
+    if (found->kv_end == DAMAGED) {
         return 2;
     }
-    return good_name(name, name_len) ? 0 : 3;
+    found->rbp_end = used_end(&RBP, rbp, rbp_len);
+    if (found->rbp_end == DAMAGED) {
+        return 2;
+    }
+    if (!good_name(name, name_len)) {
+        return 3;
+    }
+    found->kv = find(&KV, kv, found->kv_end, name, name_len);
+    found->rbp = find(&RBP, rbp, found->rbp_end, name, name_len);
+    return 0;
 }
 
 static void hand_out(const uint8_t *r, const uint8_t *device_key, const uint8_t *name, size_t name_len, size_t offset, uint8_t *output, size_t count)
@@ -164,20 +218,20 @@ static void hand_out(const uint8_t *r, const uint8_t *device_key, const uint8_t 
 uint32_t plain_get(const uint8_t *kv, size_t kv_len, const uint8_t *rbp, size_t rbp_len, const uint8_t *device_key, size_t device_key_len,
                    const uint8_t *name, size_t name_len, size_t offset, uint8_t *output, size_t output_len, size_t *count)
 {
-    uint32_t status = guard(kv, kv_len, rbp, rbp_len, device_key_len == 16, name, name_len);
-    size_t at, entry, left;
-    const uint8_t *r;
+    struct found found;
+    uint32_t status = guard(kv, kv_len, rbp, rbp_len, device_key_len == 16, name, name_len, &found);
+    const uint8_t *s, *r;
+    size_t left;
     *count = 0;
     if (status != 0) {
         return status;
     }
-    at = find(&KV, kv, kv_len, name, name_len, 0);
-    entry = find(&RBP, rbp, rbp_len, name, name_len, 0);
-    if (at == kv_len) {
-        return entry < rbp_len ? 12 : 6;
+    if (!found.kv.held) {
+        return found.rbp.held ? 12 : 6;
     }
-    r = kv + at + KV.payload;
-    status = judge(r, payload_len(&KV, kv + at), entry < rbp_len ? rbp + entry + RBP.payload : NULL, device_key, name, name_len);
+    s = kv + found.kv.at;
+    r = s + KV.payload;
+    status = judge(r, payload_len(&KV, s), found.rbp.held ? rbp + found.rbp.at + RBP.payload : NULL, device_key, name, name_len);
     if (status != 0) {
         return status;
     }
@@ -190,23 +244,11 @@ uint32_t plain_get(const uint8_t *kv, size_t kv_len, const uint8_t *rbp, size_t 
     return 0;
 }
 
-static size_t find_free(const struct format *f, const uint8_t *area, size_t len)
+/* Of a set of a name that the card holds. */
+static uint32_t set_held(const uint8_t *s, uint32_t flags)
 {
-    size_t at = 0;
-    while (at < len && area[at] != 0) {
-        at += f->slot;
-    }
-    return at;
-}
-
-static uint32_t set_held(const uint8_t *kv, size_t kv_len, size_t at, int in_chip, uint32_t flags)
-{
-    const uint8_t *r;
-    if (at == kv_len) {
-        return (flags & 1) && in_chip ? 7 : 0;
-    }
-    r = kv + at + KV.payload;
-    if (!record_valid(r, payload_len(&KV, kv + at))) {
+    const uint8_t *r = s + KV.payload;
+    if (!record_valid(r, payload_len(&KV, s))) {
         return 8;
     }
     if ((r[8] & 1) || (flags & 1)) {
@@ -226,6 +268,23 @@ static void put_slot(const struct format *f, uint8_t *s, const uint8_t *name, si
     }
     memcpy(s + f->name, name, name_len);
     memcpy(s + f->payload, payload, len);
+}
+
+/* Writes the name's slot; a new name's is put in its place, and the used slots behind that move one on. */
+static void put_at(const struct format *f, uint8_t *area, size_t end, struct place p, const uint8_t *name, size_t name_len, const uint8_t *payload,
+                   size_t len)
+{
+    if (!p.held) {
+        memmove(area + p.at + f->slot, area + p.at, end - p.at);
+    }
+    put_slot(f, area + p.at, name, name_len, payload, len);
+}
+
+/* Takes a slot out: the used ones behind it close up, and the last of them becomes free. */
+static void take_out(const struct format *f, uint8_t *area, size_t end, size_t at)
+{
+    memmove(area + at, area + at + f->slot, end - at - f->slot);
+    memset(area + end - f->slot, 0, f->slot);
 }
 
 static void seal(uint8_t r[516], const uint8_t *device_key, const uint8_t *name, size_t name_len, uint32_t flags, const uint8_t *iv, const uint8_t *data,
@@ -252,8 +311,8 @@ uint32_t plain_set(uint8_t *kv, size_t kv_len, uint8_t *rbp, size_t rbp_len, con
                    size_t name_len, uint32_t flags, const uint8_t *iv, size_t iv_len, const uint8_t *data, size_t data_len)
 {
     uint8_t r[516] = {0};
-    size_t at, entry;
-    uint32_t status = guard(kv, kv_len, rbp, rbp_len, device_key_len == 16 && iv_len == 8, name, name_len);
+    struct found found;
+    uint32_t status = guard(kv, kv_len, rbp, rbp_len, device_key_len == 16 && iv_len == 8, name, name_len, &found);
     if (status != 0) {
         return status;
     }
@@ -263,24 +322,47 @@ uint32_t plain_set(uint8_t *kv, size_t kv_len, uint8_t *rbp, size_t rbp_len, con
     if (480 < data_len) {
         return 5;
     }
-    at = find(&KV, kv, kv_len, name, name_len, 0);
-    entry = find(&RBP, rbp, rbp_len, name, name_len, 0);
-    status = set_held(kv, kv_len, at, entry < rbp_len, flags);
+    status = found.kv.held ? set_held(kv + found.kv.at, flags) : (flags & 1) && found.rbp.held ? 7 : 0;
     if (status != 0) {
         return status;
     }
-    if (!(flags & 8) && entry < rbp_len) {
+    if (!(flags & 8) && found.rbp.held) {
         return 12;
     }
-    at = at < kv_len ? at : find_free(&KV, kv, kv_len);
-    entry = entry < rbp_len ? entry : find_free(&RBP, rbp, rbp_len);
-    if (at == kv_len || ((flags & 8) && entry == rbp_len)) {
+    if ((!found.kv.held && found.kv_end == kv_len) || ((flags & 8) && !found.rbp.held && found.rbp_end == rbp_len)) {
         return 10;
     }
     seal(r, device_key, name, name_len, flags, iv, data, data_len);
-    put_slot(&KV, kv + at, name, name_len, r, 36 + data_len);
+    put_at(&KV, kv, found.kv_end, found.kv, name, name_len, r, 36 + data_len);
     if (flags & 8) {
-        put_slot(&RBP, rbp + entry, name, name_len, r + 20 + data_len, 16);
+        put_at(&RBP, rbp, found.rbp_end, found.rbp, name, name_len, r + 20 + data_len, 16);
+    }
+    return 0;
+}
+
+uint32_t plain_remove(uint8_t *kv, size_t kv_len, uint8_t *rbp, size_t rbp_len, const uint8_t *name, size_t name_len)
+{
+    struct found found;
+    uint32_t status = guard(kv, kv_len, rbp, rbp_len, 1, name, name_len, &found);
+    const uint8_t *r;
+    uint32_t flags;
+    if (status != 0) {
+        return status;
+    }
+    if (!found.kv.held) {
+        return 6;
+    }
+    r = kv + found.kv.at + KV.payload;
+    if (!record_valid(r, payload_len(&KV, kv + found.kv.at))) {
+        return 8;
+    }
+    flags = number(r + 8, 4);
+    if (flags & 1) {
+        return 7;
+    }
+    take_out(&KV, kv, found.kv_end, found.kv.at);
+    if ((flags & 8) && found.rbp.held) {
+        take_out(&RBP, rbp, found.rbp_end, found.rbp.at);
     }
     return 0;
 }
