@@ -7,7 +7,7 @@ use crate::area::{self, Chip};
 use crate::calls::{self, Call};
 use crate::cards::World;
 use crate::ciphers::Checked;
-use crate::library::{Faulty, Library, Observed};
+use crate::library::{silent, Faulty, Observed, Tells};
 use crate::record::{Flags, Record};
 use crate::rng::Rng;
 use crate::tally::Tally;
@@ -213,8 +213,6 @@ fn told(mut checks: impl Iterator<Item = (String, Checked)>) -> bool {
     checks.any(|(_, checked)| checked.is_err())
 }
 
-type Tells = fn(&dyn Library) -> bool;
-
 const CHECKS: [(&str, Tells); 6] = [
     ("orders", |library| {
         let asked = |name: &str| name.contains("downgrade") || name.contains("planted");
@@ -247,12 +245,10 @@ const CHECKS: [(&str, Tells); 6] = [
 
 #[test]
 fn each_is_told() {
-    let differs = |(name, wrong, silent): &(&str, Wrong, &str)| {
+    let differs = |(name, wrong, expected): &(&str, Wrong, &str)| {
         let library = Faulty(|call: &Call, seen: &mut Observed| wrong.spoil(call, seen));
-        let silently = CHECKS.iter().filter(|(_, tells)| !tells(&library));
-        let got: Vec<&str> = silently.map(|(check, _)| *check).collect();
-        let got = got.join(" ");
-        (got != *silent).then(|| format!("{name}: not told by {got:?}, but {silent:?}"))
+        let got = silent(&CHECKS, &library);
+        (got != *expected).then(|| format!("{name}: not told by {got:?}, but {expected:?}"))
     };
     let wrong: Vec<String> = IMPOSTORS.iter().filter_map(differs).collect();
     assert!(wrong.is_empty(), "{}", wrong.join("\n"));

@@ -27,6 +27,59 @@ pub trait Library: Sync {
     fn parse_key_file(&self, file: &[u8]) -> Seen<(u32, [u32; 6])>;
 }
 
+/// All but the calls as the reference has it. No defaults of the trait, or the product's library could be left out of a comparison unseen.
+macro_rules! all_but_calls {
+    () => {
+        fn aes(
+            &self,
+            key: &crate::aes::Block,
+            block: &crate::aes::Block,
+        ) -> crate::library::Seen<crate::aes::Block> {
+            Ok(crate::aes::Aes128::new(key).encrypt(block))
+        }
+
+        fn cmac(
+            &self,
+            key: &crate::aes::Block,
+            message: &[u8],
+        ) -> crate::library::Seen<crate::aes::Block> {
+            Ok(crate::cmac::cmac(key, message))
+        }
+
+        fn tag_difference(
+            &self,
+            a: &crate::aes::Block,
+            b: &crate::aes::Block,
+        ) -> crate::library::Seen<u32> {
+            Ok(crate::tags::difference(a, b))
+        }
+
+        fn ctr(
+            &self,
+            key: &crate::aes::Block,
+            iv: &crate::ctr::Iv,
+            data: &[u8],
+        ) -> crate::library::Seen<Vec<u8>> {
+            Ok(crate::ctr::ctr(key, iv, data))
+        }
+
+        fn derive(
+            &self,
+            key: &crate::aes::Block,
+            prefix: &[u8],
+            name: &[u8],
+        ) -> crate::library::Seen<crate::aes::Block> {
+            Ok(crate::kdf::derive(key, prefix, name))
+        }
+
+        fn parse_key_file(&self, file: &[u8]) -> crate::library::Seen<(u32, [u32; 6])> {
+            Ok(crate::parsing::expected(file))
+        }
+    };
+}
+#[cfg(test)]
+pub(crate) use all_but_calls;
+
 /// The reference in the library's place.
 pub struct Reference;
 
@@ -38,29 +91,7 @@ impl Library for Reference {
         }
     }
 
-    fn aes(&self, key: &Block, block: &Block) -> Seen<Block> {
-        Ok(crate::aes::Aes128::new(key).encrypt(block))
-    }
-
-    fn cmac(&self, key: &Block, message: &[u8]) -> Seen<Block> {
-        Ok(crate::cmac::cmac(key, message))
-    }
-
-    fn tag_difference(&self, a: &Block, b: &Block) -> Seen<u32> {
-        Ok(crate::tags::difference(a, b))
-    }
-
-    fn ctr(&self, key: &Block, iv: &Iv, data: &[u8]) -> Seen<Vec<u8>> {
-        Ok(crate::ctr::ctr(key, iv, data))
-    }
-
-    fn derive(&self, key: &Block, prefix: &[u8], name: &[u8]) -> Seen<Block> {
-        Ok(crate::kdf::derive(key, prefix, name))
-    }
-
-    fn parse_key_file(&self, file: &[u8]) -> Seen<(u32, [u32; 6])> {
-        Ok(crate::parsing::expected(file))
-    }
+    all_but_calls!();
 }
 
 /// The reference with a fault in its calls, for tests of what finds one.
@@ -75,27 +106,17 @@ impl<F: Fn(&Call, &mut Observed) + Sync> Library for Faulty<F> {
         observed
     }
 
-    fn aes(&self, key: &Block, block: &Block) -> Seen<Block> {
-        Reference.aes(key, block)
-    }
+    all_but_calls!();
+}
 
-    fn cmac(&self, key: &Block, message: &[u8]) -> Seen<Block> {
-        Reference.cmac(key, message)
-    }
+/// Whether a check tells the library from the reference.
+#[cfg(test)]
+pub type Tells = fn(&dyn Library) -> bool;
 
-    fn tag_difference(&self, a: &Block, b: &Block) -> Seen<u32> {
-        Reference.tag_difference(a, b)
-    }
-
-    fn ctr(&self, key: &Block, iv: &Iv, data: &[u8]) -> Seen<Vec<u8>> {
-        Reference.ctr(key, iv, data)
-    }
-
-    fn derive(&self, key: &Block, prefix: &[u8], name: &[u8]) -> Seen<Block> {
-        Reference.derive(key, prefix, name)
-    }
-
-    fn parse_key_file(&self, file: &[u8]) -> Seen<(u32, [u32; 6])> {
-        Reference.parse_key_file(file)
-    }
+/// Those of the checks that do not.
+#[cfg(test)]
+pub fn silent(checks: &[(&str, Tells)], library: &dyn Library) -> String {
+    let silently = checks.iter().filter(|(_, tells)| !tells(library));
+    let names: Vec<&str> = silently.map(|(check, _)| *check).collect();
+    names.join(" ")
 }

@@ -4,7 +4,7 @@ use crate::answer::{Answer, Why};
 use crate::area::{self, Slot};
 use crate::calls::{self, Call};
 use crate::ciphers::Checked;
-use crate::library::{Faulty, Library, Observed};
+use crate::library::{silent, Faulty, Observed, Tells};
 use crate::mix::{self, Mix, PREFIX};
 use crate::record::Record;
 use crate::rng::Rng;
@@ -274,8 +274,6 @@ fn without_downgraded(answer: &Answer) -> Vec<u8> {
     }
     chip.encode()
 }
-
-type Tells = fn(&dyn Library) -> bool;
 
 const CHECKS: [(&str, Tells); 4] = [
     ("orders", |library| {
@@ -757,12 +755,10 @@ const IMPOSTORS: [(&str, Wrong, &str); 51] = [
 
 #[test]
 fn each_is_told() {
-    let differs = |(name, wrong, silent): &(&str, Wrong, &str)| {
+    let differs = |(name, wrong, expected): &(&str, Wrong, &str)| {
         let library = Faulty(|call: &Call, seen: &mut Observed| wrong.spoil(call, seen));
-        let silently = CHECKS.iter().filter(|(_, tells)| !tells(&library));
-        let got: Vec<&str> = silently.map(|(check, _)| *check).collect();
-        let got = got.join(" ");
-        (got != *silent).then(|| format!("{name}: not told by {got:?}, but {silent:?}"))
+        let got = silent(&CHECKS, &library);
+        (got != *expected).then(|| format!("{name}: not told by {got:?}, but {expected:?}"))
     };
     let wrong: Vec<String> = IMPOSTORS.iter().filter_map(differs).collect();
     assert!(wrong.is_empty(), "{}", wrong.join("\n"));

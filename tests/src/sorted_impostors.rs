@@ -5,13 +5,11 @@
 
 use std::fs;
 
-use crate::aes::Block;
 use crate::answer::Answer;
 use crate::area::{self, in_front, Area, Card, Chip, Slot, ENTRY, NAME_MAX, PLACE};
 use crate::calls::{self, Call};
 use crate::ciphers::Checked;
-use crate::ctr::Iv;
-use crate::library::{Library, Observed, Reference, Seen};
+use crate::library::{all_but_calls, silent, Library, Observed, Tells};
 use crate::rng::Rng;
 use crate::tally::Tally;
 use crate::{edges, generator, lists, orders, sorted, stories};
@@ -260,29 +258,7 @@ impl Library for Build {
         Observed { answer, strays }
     }
 
-    fn aes(&self, key: &Block, block: &Block) -> Seen<Block> {
-        Reference.aes(key, block)
-    }
-
-    fn cmac(&self, key: &Block, message: &[u8]) -> Seen<Block> {
-        Reference.cmac(key, message)
-    }
-
-    fn tag_difference(&self, a: &Block, b: &Block) -> Seen<u32> {
-        Reference.tag_difference(a, b)
-    }
-
-    fn ctr(&self, key: &Block, iv: &Iv, data: &[u8]) -> Seen<Vec<u8>> {
-        Reference.ctr(key, iv, data)
-    }
-
-    fn derive(&self, key: &Block, prefix: &[u8], name: &[u8]) -> Seen<Block> {
-        Reference.derive(key, prefix, name)
-    }
-
-    fn parse_key_file(&self, file: &[u8]) -> Seen<(u32, [u32; 6])> {
-        Reference.parse_key_file(file)
-    }
+    all_but_calls!();
 }
 
 const fn ordered_by(lower: Lower) -> Rules {
@@ -651,8 +627,6 @@ const IMPOSTORS: [(&str, Build, &str); 41] = [
     ),
 ];
 
-type Tells = fn(&dyn Library) -> bool;
-
 const CHECKS: [(&str, Tells); 5] = [
     ("sorted", |library| told(sorted::each(library))),
     ("edges", |library| {
@@ -681,11 +655,9 @@ fn told(mut checks: impl Iterator<Item = (String, Checked)>) -> bool {
 
 #[test]
 fn each_is_told() {
-    let differs = |(name, build, silent): &(&str, Build, &str)| {
-        let silently = CHECKS.iter().filter(|(_, tells)| !tells(build));
-        let got: Vec<&str> = silently.map(|(check, _)| *check).collect();
-        let got = got.join(" ");
-        (got != *silent).then(|| format!("{name}: not told by {got:?}, but {silent:?}"))
+    let differs = |(name, build, expected): &(&str, Build, &str)| {
+        let got = silent(&CHECKS, build);
+        (got != *expected).then(|| format!("{name}: not told by {got:?}, but {expected:?}"))
     };
     let wrong: Vec<String> = IMPOSTORS.iter().filter_map(differs).collect();
     assert!(wrong.is_empty(), "{}", wrong.join("\n"));
