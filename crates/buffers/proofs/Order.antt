@@ -1,7 +1,7 @@
 -- The order of byte strings is a strict total order.
 use mathlib.Core.Path.{_≡_, refl, sym, ap, _∙_}
 use mathlib.Core.Logic.{_≢_, _⊎_, inl, inr, ⊎-elim}
-use mathlib.Core.Bool.{Bool, true, false, _||_}
+use mathlib.Core.Bool.{true, false, or-false}
 use mathlib.Core.List.{List, [], _∷_}
 use Prim.Native.Nat.{ℕ, zero, suc, _<_, min}
 use native.Mathlib.Nat.{not-suc-le-zero, le-of-suc-le-suc}
@@ -13,10 +13,6 @@ use lib.Seq.{drop-cons}
 use Rattle.buffers.specs.Compare.{precedes}
 use Rattle.buffers.specs.Laws.{FirstDifference, OrderLaws}
 use Rattle.buffers.proofs.Split.{split, clash, both}
-
-or-false : (a : Bool) → (a || false) ≡ a
-or-false true = refl
-or-false false = refl
 
 -- one byte: what decides
 module _ (x y : ℕ) (a b : List ℕ) where

@@ -205,18 +205,34 @@ module _ {S : Type 0} (at : S → Option Name) where
             sym (take-append-drop (u - i) (drop i ss))
             ∙ ap (λ (l : List S). take (u - i) (drop i ss) ++ l) (drop-drop (u - i) i ss ∙ ap (λ (k : ℕ). drop k ss) e)
 
-        -- the last one goes, or the first free one
-        pub last-goes : firstIndex free ss < length ss → dropLast (drop i ss) ≡ take (firstIndex free ss - i) (drop i ss) ++ drop (suc (firstIndex free ss)) ss
-        last-goes there =
-            let u = firstIndex free ss in
-            let k = length ss - suc u in
-            let e : length ss - u ≡ suc k = omega arith in
-            let all : drop u ss ≡ replicate (suc k) b = blanks ss p h ∙ ap (λ (m : ℕ). replicate m b) e in
-            let z : suc u ≡ u + 1 = omega arith in
-            let behind : drop (suc u) ss ≡ replicate k b = ap (λ (m : ℕ). drop m ss) z ∙ sym (drop-drop 1 u ss) ∙ ap (λ (l : List S). drop 1 l) all in
-            ap dropLast (cut ∙ ap (λ (l : List S). take (u - i) (drop i ss) ++ l) all)
-            ∙ dropLast-replicate (take (u - i) (drop i ss)) k b
-            ∙ ap (λ (l : List S). take (u - i) (drop i ss) ++ l) (sym behind)
+        module _ (there : firstIndex free ss < length ss) where
+          abbrev left : ℕ
+          left = length ss - suc (firstIndex free ss)
+
+          all : drop (firstIndex free ss) ss ≡ replicate (suc left) b
+          all = let e : length ss - firstIndex free ss ≡ suc left = omega arith in blanks ss p h ∙ ap (λ (m : ℕ). replicate m b) e
+
+          shorter : dropLast (drop i ss) ≡ take (firstIndex free ss - i) (drop i ss) ++ replicate left b
+          shorter =
+              let used = take (firstIndex free ss - i) (drop i ss) in
+              ap dropLast (cut ∙ ap (λ (l : List S). used ++ l) all) ∙ dropLast-replicate used left b
+
+          -- the last one goes, or the first free one
+          pub last-goes : dropLast (drop i ss) ≡ take (firstIndex free ss - i) (drop i ss) ++ drop (suc (firstIndex free ss)) ss
+          last-goes =
+              let u = firstIndex free ss in
+              let z : suc u ≡ u + 1 = omega arith in
+              let behind : drop (suc u) ss ≡ replicate left b = ap (λ (m : ℕ). drop m ss) z ∙ sym (drop-drop 1 u ss) ∙ ap (λ (l : List S). drop 1 l) all in
+              shorter ∙ ap (λ (l : List S). take (u - i) (drop i ss) ++ l) (sym behind)
+
+          -- which is a free one
+          pub last-free : dropLast (drop i ss) ++ b ∷ [] ≡ drop i ss
+          last-free =
+              let used = take (firstIndex free ss - i) (drop i ss) in
+              ap (λ (l : List S). l ++ b ∷ []) shorter
+              ∙ append-assoc used (replicate left b) (b ∷ [])
+              ∙ ap (λ (l : List S). used ++ l) (replicate-snoc left b ∙ sym all)
+              ∙ sym cut
 
         -- a free one is put behind the last one, or behind the last that is used
         pub free-last : drop i ss ++ b ∷ [] ≡ take (firstIndex free ss - i) (drop i ss) ++ b ∷ drop (firstIndex free ss) ss
@@ -227,19 +243,6 @@ module _ {S : Type 0} (at : S → Option Name) where
             ∙ append-assoc (take (u - i) (drop i ss)) (drop u ss) (b ∷ [])
             ∙ ap (λ (l : List S). take (u - i) (drop i ss) ++ l)
             (ap (λ (l : List S). l ++ b ∷ []) all ∙ replicate-snoc (length ss - u) b ∙ ap (λ (l : List S). b ∷ l) (sym all))
-
-        -- the one that goes is a free one
-        pub last-free : firstIndex free ss < length ss → dropLast (drop i ss) ++ b ∷ [] ≡ drop i ss
-        last-free there =
-            let u = firstIndex free ss in
-            let k = length ss - suc u in
-            let e : length ss - u ≡ suc k = omega arith in
-            let all : drop u ss ≡ replicate (suc k) b = blanks ss p h ∙ ap (λ (m : ℕ). replicate m b) e in
-            let parts = cut ∙ ap (λ (l : List S). take (u - i) (drop i ss) ++ l) all in
-            ap (λ (l : List S). l ++ b ∷ []) (ap dropLast parts ∙ dropLast-replicate (take (u - i) (drop i ss)) k b)
-            ∙ append-assoc (take (u - i) (drop i ss)) (replicate k b) (b ∷ [])
-            ∙ ap (λ (l : List S). take (u - i) (drop i ss) ++ l) (replicate-snoc k b)
-            ∙ sym parts
 
 -- ---- in bytes
 
