@@ -1,15 +1,16 @@
 -- Laws of counter mode. Assumes nothing.
-use mathlib.Core.Path.{_≡_, refl, ap, _∙_}
+use mathlib.Core.Path.{_≡_, refl, sym, ap, _∙_}
 use mathlib.Core.List.{List, [], _∷_, _++_}
 use Prim.Native.Nat.{ℕ, zero, suc, _+_, _-_, _/_, _%_, _^_, _<_}
 use native.Mathlib.Nat.{zero-add, le-of-suc-le-suc, not-suc-le-zero}
 use native.Mathlib.Omega.{arith}
 use lib.Bits.{bitXor}
-use lib.ListN.{length, getD}
+use lib.ListN.{length, getD, take}
+use lib.Seq.{take-nil}
 use lib.Pow.{field, mod-mod-pow}
 use Rattle.cipher.specs.Aes.{aes128}
 use Rattle.cipher.specs.Ctr.{be64, counterBlock, streamByte, ctrFrom, ctrAt, ctr}
-use Rattle.cipher.specs.Laws.{BigEndian, CtrLaw, CtrTwice}
+use Rattle.cipher.specs.Laws.{BigEndian, CtrLaw, CtrTwice, CtrFront}
 use Rattle.cipher.proofs.Xor.{xor-twice}
 
 module _ (ciph : List ℕ → List ℕ) (iv : List ℕ) (count : ℕ) where
@@ -30,6 +31,12 @@ module _ (ciph : List ℕ → List ℕ) (iv : List ℕ) (count : ℕ) where
   unfolding ctrFrom
   from-length j [] = refl
   from-length j (b ∷ bs) = ap suc (from-length (suc j) bs)
+
+  from-front : (j : ℕ) (m : List ℕ) (n : ℕ) → ctrFrom ciph iv count j (take n m) ≡ take n (ctrFrom ciph iv count j m)
+  unfolding ctrFrom
+  from-front j [] n = ap (ctrFrom ciph iv count j) (take-nil n) ∙ sym (take-nil n)
+  from-front j (b ∷ bs) zero = refl
+  from-front j (b ∷ bs) (suc n) = ap (λ (l : List ℕ). bitXor b (streamByte ciph iv count j) ∷ l) (from-front (suc j) bs n)
 
 ctr-at-byte : (key iv : List ℕ) (count : ℕ) (m : List ℕ) (j : ℕ) → j < length m
     → getD (ctrAt key iv count m) j 0 ≡ bitXor (getD m j 0) (getD (aes128 key (iv ++ be64 ((count + j / 16) % 2 ^ 64))) (j % 16) 0)
@@ -59,6 +66,10 @@ ctr-law = record {
 pub ctr-twice : CtrTwice
 unfolding ctr ctrAt
 ctr-twice = record { from-zero = λ key iv m. from-twice (aes128 key) iv _ 0 m; from-count = λ key iv count m. from-twice (aes128 key) iv count 0 m }
+
+pub ctr-front : CtrFront
+unfolding ctr ctrAt
+ctr-front key iv m n = from-front (aes128 key) iv _ 0 m n
 
 pub ctr-at-length : (key iv : List ℕ) (count : ℕ) (m : List ℕ) → length (ctrAt key iv count m) ≡ length m
 unfolding ctrAt

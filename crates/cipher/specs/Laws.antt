@@ -129,6 +129,10 @@ pub record CtrTwice : Type 0 where
   pub from-zero : (key iv m : List ℕ) → ctr key iv (ctr key iv m) ≡ m
   pub from-count : (key iv : List ℕ) (count : ℕ) (m : List ℕ) → ctrAt key iv count (ctrAt key iv count m) ≡ m
 
+-- what stands further behind changes nothing: the front of a message alone gives the front of the whole
+abbrev pub CtrFront : Type 0
+CtrFront = (key iv m : List ℕ) (n : ℕ) → ctr key iv (take n m) ≡ take n (ctr key iv m)
+
 -- 01: "CMAC under the 16-byte device key of the byte 01, the salt, the byte 00, and 00 00 00 80. The salt is "ENC" or "AUTH" followed by the name,
 -- cut so that the whole salt has at most 32 bytes."
 pub record DerivationLaw : Type 0 where

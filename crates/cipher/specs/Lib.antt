@@ -7,4 +7,5 @@ pub mod Cmac
 pub mod CmacState
 pub mod Ctr
 pub mod Kdf
+pub mod Device
 pub mod Laws

@@ -170,6 +170,20 @@ pub fn cmac_tag(key: [u8; 16], message: &[u8]) -> [u8; 16]
     end.block
 }
 
+// The tag of a message in two parts, with the tables lent.
+pub fn tag_parts(
+    mix: &[u32; 256],
+    sub: &[u8; 256],
+    key: [u8; 16],
+    first: &[u8],
+    second: &[u8],
+) -> [u8; 16]
+    requires { ⌜ (now mix ≡ mixTable) × (now sub ≡ sbox) ⌝ }
+    ensures { λ r. ⌜ r ≡ cmac key (now (first .entry) ++ now (second .entry)) ⌝ }
+{
+    cmac_tag_parts(key, first, second)
+}
+
 // The tag of a message in two parts.
 pub fn cmac_tag_parts(key: [u8; 16], first: &[u8], second: &[u8]) -> [u8; 16]
     ensures { λ r. ⌜ r ≡ cmac key (now (first .entry) ++ now (second .entry)) ⌝ }

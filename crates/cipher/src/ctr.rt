@@ -2,6 +2,8 @@
 use crate::aes;
 use crate::tables;
 ghost use mathlib.Core.Path.{_≡_};
+ghost use Rattle.cipher.specs.Sbox.{sbox};
+ghost use Rattle.cipher.specs.Tables.{mixTable};
 ghost use Rattle.cipher.specs.Ctr.{counterBlock, ctrAt, ctr};
 
 fn counter_block(iv: [u8; 8], count: u64) -> [u8; 16]
@@ -52,6 +54,14 @@ pub fn ctr_xor_at(key: [u8; 16], iv: [u8; 8], count: u64, buf: &mut [u8])
             i += 1;
         }
     }
+}
+
+// A buffer encrypted or decrypted in place, the count from 0, with the tables lent.
+pub fn crypt(mix: &[u32; 256], sub: &[u8; 256], key: [u8; 16], iv: [u8; 8], buf: &mut [u8])
+    requires { ⌜ (now mix ≡ mixTable) × (now sub ≡ sbox) ⌝ }
+    ensures { λ _. ⌜ now (buf .exit) ≡ ctr key iv (now (buf .entry)) ⌝ }
+{
+    ctr_xor(key, iv, buf)
 }
 
 // A buffer encrypted or decrypted in place, the count from 0.

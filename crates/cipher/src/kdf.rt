@@ -1,9 +1,14 @@
 // Key derivation in counter mode over CMAC (SP 800-108, 5.1), one block of output.
+use crate::aes;
 use crate::cmac::CmacState;
 use crate::num;
 use crate::tables;
 ghost use mathlib.Core.Path.{_≡_};
+ghost use mathlib.Core.Bool.{cond};
 ghost use mathlib.Core.List.{_++_};
+ghost use Rattle.cipher.specs.Sbox.{sbox};
+ghost use Rattle.cipher.specs.Tables.{mixTable};
+ghost use Rattle.cipher.specs.Device.{prepared, bare, Ready};
 ghost use Rattle.cipher.specs.Kdf.{encPrefix, authPrefix, kdf, derivedKey};
 
 // The prefixes of the two keys that each name has.
@@ -34,16 +39,62 @@ pub fn derive_key(device_key: [u8; 16], prefix: &[u8], name: &[u8]) -> [u8; 16]
     kdf_counter_cmac(device_key, &prefix[..p], &name[..n])
 }
 
-// The key that a name's data is encrypted under.
-pub fn derive_encryption_key(device_key: [u8; 16], name: &[u8]) -> [u8; 16]
-    ensures { λ r. ⌜ r ≡ derivedKey «device_key» encPrefix (now (name .entry)) ⌝ }
+// The device key with what each derivation takes of it: its expansion, and the zero block encrypted under it.
+pub struct DeviceKey {
+    pub key: [u8; 16],
+    pub keys: [u32; 44],
+    pub zero: [u8; 16],
+}
+
+pub fn prepare(mix: &[u32; 256], sub: &[u8; 256], key: [u8; 16]) -> DeviceKey
+    requires { ⌜ (now mix ≡ mixTable) × (now sub ≡ sbox) ⌝ }
+    ensures { λ r. ⌜ r ≡ prepared key ⌝ }
 {
-    derive_key(device_key, &ENC, name)
+    let keys = aes::expand_key(&key);
+    let block = [0u8; 16];
+    let zero = aes::encrypt_block(mix, sub, &keys, &block);
+    DeviceKey { key, keys, zero }
+}
+
+// The device key, prepared where keys are to be derived; there is nothing to lend where none is.
+pub fn prepare_if(wanted: bool, mix: &[u32; 256], sub: &[u8; 256], key: [u8; 16]) -> DeviceKey
+    requires { ⌜ (now mix ≡ mixTable) × (now sub ≡ sbox) ⌝ }
+    ensures { λ r. ⌜ r ≡ cond wanted (prepared key) (bare key) ⌝ }
+{
+    if wanted {
+        return prepare(mix, sub, key);
+    }
+    DeviceKey {
+        key,
+        keys: [0; 44],
+        zero: [0; 16],
+    }
+}
+
+// The key that a name's data is encrypted under.
+pub fn derive_encryption_key(
+    mix: &[u32; 256],
+    sub: &[u8; 256],
+    device: DeviceKey,
+    name: &[u8],
+) -> [u8; 16]
+    requires { ⌜ Ready (now mix) (now sub) device ⌝ }
+    ensures { λ r. ⌜ r ≡ derivedKey (device .key) encPrefix (now (name .entry)) ⌝ }
+{
+    let key = device.key;
+    derive_key(key, &ENC, name)
 }
 
 // The key that a name's record is authenticated under.
-pub fn derive_authentication_key(device_key: [u8; 16], name: &[u8]) -> [u8; 16]
-    ensures { λ r. ⌜ r ≡ derivedKey «device_key» authPrefix (now (name .entry)) ⌝ }
+pub fn derive_authentication_key(
+    mix: &[u32; 256],
+    sub: &[u8; 256],
+    device: DeviceKey,
+    name: &[u8],
+) -> [u8; 16]
+    requires { ⌜ Ready (now mix) (now sub) device ⌝ }
+    ensures { λ r. ⌜ r ≡ derivedKey (device .key) authPrefix (now (name .entry)) ⌝ }
 {
-    derive_key(device_key, &AUTH, name)
+    let key = device.key;
+    derive_key(key, &AUTH, name)
 }

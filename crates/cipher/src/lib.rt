@@ -4,4 +4,4 @@ pub mod cmac;
 pub mod ctr;
 pub mod kdf;
 mod num;
-mod tables;
+pub mod tables;

@@ -524,13 +524,13 @@ const MIX: [u32; 256] = [
 ];
 
 // A constant is copied wherever it is named: an operation takes each table once and lends it on.
-pub(crate) fn sbox_table() -> [u8; 256]
+pub fn sbox_table() -> [u8; 256]
     ensures { λ r. ⌜ r ≡ sbox ⌝ }
 {
     SBOX
 }
 
-pub(crate) fn mix_table() -> [u32; 256]
+pub fn mix_table() -> [u32; 256]
     ensures { λ r. ⌜ r ≡ mixTable ⌝ }
 {
     MIX
