@@ -26,7 +26,7 @@ xor-at (x ∷ a) [] i h k = absurd (not-suc-le-zero k)
 xor-at (x ∷ a) (y ∷ b) zero h k = refl
 xor-at (x ∷ a) (y ∷ b) (suc i) h k = xor-at a b i (le-of-suc-le-suc h) (le-of-suc-le-suc k)
 
-xor-length : (a b : List ℕ) → length a ≤ length b → length (xorBytes a b) ≡ length a
+pub xor-length : (a b : List ℕ) → length a ≤ length b → length (xorBytes a b) ≡ length a
 unfolding xorBytes zipWith
 xor-length [] b h = refl
 xor-length (x ∷ a) [] h = absurd (not-suc-le-zero h)

@@ -45,7 +45,7 @@ ctr-at-byte key iv count m j h =
     from-at (aes128 key) iv count 0 m j h ∙ ap (λ (k : ℕ). bitXor (getD m j 0) (streamByte (aes128 key) iv count k)) (zero-add j)
 
 -- eight bytes tell a number up to 2^64
-byte-wraps : (n j k : ℕ) → n % 2 ^ (j + 8 + k) / 2 ^ k % 2 ^ 8 ≡ n / 2 ^ k % 2 ^ 8
+pub byte-wraps : (n j k : ℕ) → n % 2 ^ (j + 8 + k) / 2 ^ k % 2 ^ 8 ≡ n / 2 ^ k % 2 ^ 8
 byte-wraps n j k = ap (λ (x : ℕ). x % 2 ^ 8) (field n (j + 8) k) ∙ mod-mod-pow (n / 2 ^ k) j 8
 
 be64-wraps : (n : ℕ) → be64 (n % 2 ^ 64) ≡ be64 n

@@ -1,10 +1,10 @@
 -- The derivation as 01 has it. Assumes nothing.
 use mathlib.Core.Path.{refl}
-use Rattle.cipher.specs.Kdf.{salt, kdf, derivedKey}
+use Rattle.cipher.specs.Kdf.{salt, labelled, kdf, derivedKey}
 use Rattle.cipher.specs.Laws.{DerivationLaw}
 
 pub derivation-law : DerivationLaw
-unfolding salt kdf derivedKey
+unfolding salt labelled kdf derivedKey
 derivation-law = record {
   enc = refl;
   auth = refl;

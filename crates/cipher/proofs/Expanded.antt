@@ -1,5 +1,5 @@
 -- An expanded key, read back, is the key schedule: what is encrypted under it is encrypted under the key. Assumes nothing.
-use mathlib.Core.Path.{_≡_, refl, sym, ap, ap₂, _∙_}
+use mathlib.Core.Path.{_≡_, refl, sym, ap, ap₂, fun-ext, _∙_}
 use mathlib.Core.List.{List, [], _++_}
 use Prim.Native.Nat.{ℕ, zero, suc, _+_, _*_, _≤_, _<_}
 use native.Mathlib.Nat.{add-zero}
@@ -117,3 +117,7 @@ module _ (key : List ℕ) (h : (i : ℕ) → getD key i 0 < 256) where
   encrypt-expanded block =
       ap blockOf
       (ap₂ (λ (w t : State). addRoundKey w (shiftRows (subBytes t))) (kept-expanded 10 10 (lit≤ tt)) (rounds-same 9 (stateOf block) (lit≤ tt)))
+
+-- the cipher under an expanded key is the cipher under its key
+pub same-cipher : (key ks : List ℕ) → ((i : ℕ) → getD key i 0 < 256) → ks ≡ expandKey key → encryptWith ks ≡ aes128 key
+same-cipher key ks h e = ap encryptWith e ∙ fun-ext (encrypt-expanded key h)

@@ -2,31 +2,18 @@
 use mathlib.Core.Path.{_≡_, refl, ap, ap₂, _∙_}
 use mathlib.Core.List.{List, [], _∷_, _++_}
 use Prim.Native.Nat.{ℕ, zero, suc, _+_, _*_, _≤_, _<_}
-use native.Mathlib.Nat.{zero-add}
 use native.Mathlib.Numerals.{add-one, add-two, add-three}
 use native.Mathlib.Omega.{arith}
 use lib.Dec.{lit<}
 use lib.Bits.{bitXor}
 use lib.ListN.{length, length-append, length-take, getD, take, drop, set}
 use lib.Seq.{sets-eq, take-at}
+use borrow.Author.Tests.{lt-ltb}
 use Rattle.cipher.specs.Field.{xtime}
-use Rattle.cipher.specs.Sbox.{tableFrom}
-use Rattle.cipher.specs.Aes.{State, numberWord, wordNumber, xorWord, subWord, rotWord, diagonal}
+use Rattle.cipher.specs.Aes.{State, numberWord, wordNumber, xorWord, subWord, rotWord}
 use Rattle.cipher.specs.Aes.{rcon, rconByte, nextRoundKey, roundKey, stateNumbers, expandTo}
-use Rattle.cipher.proofs.Words.{table-at, number-word, number-xor, state-ext}
+use Rattle.cipher.proofs.Words.{number-word, number-xor, state-ext}
 use Rattle.cipher.proofs.Mix.{xtime-lt}
-
--- Rcon as the code has it
-unfoldable pub table : List ℕ
-table =
-    0x01000000 ∷ 0x02000000 ∷ 0x04000000 ∷ 0x08000000 ∷ 0x10000000 ∷ 0x20000000 ∷ 0x40000000 ∷ 0x80000000 ∷ 0x1b000000 ∷ 0x36000000 ∷ []
-
-table-right : table ≡ tableFrom (λ i. wordNumber (rcon i)) 10 0
-unfolding table tableFrom wordNumber rcon rconByte xtime
-table-right = refl
-
-pub constant-at : (i : ℕ) → i < 10 → getD table i 0 ≡ wordNumber (rcon i)
-constant-at i h = ap (λ (l : List ℕ). getD l i 0) table-right ∙ table-at (λ j. wordNumber (rcon j)) 10 0 i h ∙ ap (λ (j : ℕ). wordNumber (rcon j)) (zero-add i)
 
 pub rcon-lt : (i : ℕ) → rconByte i < 256
 unfolding rconByte
@@ -37,15 +24,35 @@ pub number-constant : (i : ℕ) → numberWord (wordNumber (rcon i)) ≡ rcon i
 unfolding rcon
 number-constant i = number-word _ (rcon-lt i) (lit< tt) (lit< tt) (lit< tt)
 
+-- a constant below 0x80 is doubled
+pub constant-low : (i c : ℕ) → c ≡ wordNumber (rcon i) → c < 0x80000000 → c * 2 ≡ wordNumber (rcon (suc i))
+unfolding rcon rconByte wordNumber xtime
+constant-low i c e h = let low : rconByte i < 128 = omega arith in rw (lt-ltb (rconByte i) 128 low) (omega arith)
+
+-- of the ten constants one is not
+pub constant-high : (i c : ℕ) → i < 10 → c ≡ wordNumber (rcon i) → 0x80000000 ≤ c → 0x1b000000 ≡ wordNumber (rcon (suc i))
+unfolding rcon rconByte wordNumber xtime
+constant-high zero c h e k = absurd (omega arith)
+constant-high (suc zero) c h e k = absurd (omega arith)
+constant-high (suc (suc zero)) c h e k = absurd (omega arith)
+constant-high (suc (suc (suc zero))) c h e k = absurd (omega arith)
+constant-high (suc (suc (suc (suc zero)))) c h e k = absurd (omega arith)
+constant-high (suc (suc (suc (suc (suc zero))))) c h e k = absurd (omega arith)
+constant-high (suc (suc (suc (suc (suc (suc zero)))))) c h e k = absurd (omega arith)
+constant-high (suc (suc (suc (suc (suc (suc (suc zero))))))) c h e k = refl
+constant-high (suc (suc (suc (suc (suc (suc (suc (suc zero)))))))) c h e k = absurd (omega arith)
+constant-high (suc (suc (suc (suc (suc (suc (suc (suc (suc zero))))))))) c h e k = absurd (omega arith)
+constant-high (suc (suc (suc (suc (suc (suc (suc (suc (suc (suc i)))))))))) c h e k = absurd (omega arith)
+
 -- one round key from another, in numbers: t is RotWord, s its SubWord, r the round constant
 pub next-numbers : (i k0 k1 k2 k3 t s r : ℕ) → numberWord t ≡ rotWord (numberWord k3)
-    → numberWord s ≡ subWord (diagonal (numberWord t) (numberWord t) (numberWord t) (numberWord t)) → numberWord r ≡ rcon i
+    → numberWord s ≡ subWord (numberWord t) → numberWord r ≡ rcon i
     → let n0 = bitXor k0 (bitXor s r) in
     let n1 = bitXor k1 n0 in
     let n2 = bitXor k2 n1 in
     let old : State = record { c0 = numberWord k0; c1 = numberWord k1; c2 = numberWord k2; c3 = numberWord k3 } in
     _≡_ {A = State} (record { c0 = numberWord n0; c1 = numberWord n1; c2 = numberWord n2; c3 = numberWord (bitXor k3 n2) }) (nextRoundKey i old)
-unfolding nextRoundKey diagonal
+unfolding nextRoundKey
 next-numbers i k0 k1 k2 k3 t s r ht hs hr =
     let n0 = bitXor k0 (bitXor s r) in
     let n1 = bitXor k1 n0 in

@@ -5,6 +5,8 @@ pub mod CtrLaws
 pub mod Lengths
 pub mod Mix
 pub mod KeySchedule
+pub mod States
+pub mod Doubling
 pub mod Expanded
 pub mod Arrays
 pub mod Blocks
@@ -12,8 +14,11 @@ pub mod Fold
 pub mod Cases
 pub mod Feeds
 pub mod Tag
+pub mod Feeding
 pub mod Chain
 pub mod Salt
+pub mod Message
+pub mod Prepared
 pub mod Stream
 pub mod Product
 pub mod Inverse

@@ -13,8 +13,8 @@ use borrow.Author.Tests.{ltb-true, ltb-false, eq-eqb, ne-eqb}
 use Rattle.cipher.specs.declared.cmac.CmacState.{CmacState}
 use Rattle.cipher.specs.Aes.{encryptWith, expandKey}
 use Rattle.cipher.specs.Cmac.{xorBytes, subkey1, subkey2, lastBlock, chain, before, cmacOver, cmac}
-use Rattle.cipher.specs.CmacState.{keyed, begun, clamped, xorAt, fedByte, fed, closedBlock, finished}
-use Rattle.cipher.specs.Kdf.{kdf}
+use Rattle.cipher.specs.CmacState.{keyed, begun, clamped, xorAt, xorFrom, fedByte, fed, closedBlock, finished}
+use Rattle.cipher.specs.Kdf.{labelled, kdf}
 use Rattle.cipher.specs.Laws.{TagOfParts, OneShot}
 use Rattle.cipher.proofs.Xor.{xor-assoc}
 use Rattle.cipher.proofs.Cases.{by-test}
@@ -30,18 +30,13 @@ xor-bytes-assoc (x ∷ a) [] c = refl
 xor-bytes-assoc (x ∷ a) (y ∷ b) [] = refl
 xor-bytes-assoc (x ∷ a) (y ∷ b) (z ∷ c) = ap₂ (λ (u : ℕ) (l : List ℕ). u ∷ l) (xor-assoc x y z) (xor-bytes-assoc a b c)
 
--- w added to a block from place p on, byte by byte
-abbrev xorFrom : List ℕ → ℕ → List ℕ → List ℕ
-xorFrom c p [] = c
-xorFrom c p (b ∷ w) = xorFrom (xorAt c p b) (suc p) w
-
 xor-later : (x : ℕ) (c : List ℕ) (p : ℕ) (w : List ℕ) → xorFrom (x ∷ c) (suc p) w ≡ x ∷ xorFrom c p w
 unfolding xorAt
 xor-later x c p [] = refl
 xor-later x c p (b ∷ w) = xor-later x (xorAt c p b) (suc p) w
 
 -- what is added to a block, and zeros behind it
-xor-from : (c w : List ℕ) (k : ℕ) → length c ≡ length w + k → xorFrom c 0 w ≡ xorBytes c (w ++ replicate k 0)
+pub xor-from : (c w : List ℕ) (k : ℕ) → length c ≡ length w + k → xorFrom c 0 w ≡ xorBytes c (w ++ replicate k 0)
 unfolding xorBytes zipWith xorAt
 xor-from [] [] zero e = refl
 xor-from [] [] (suc k) e = refl
@@ -69,7 +64,7 @@ module _ (keys : List ℕ) where
   ciph = encryptWith keys
 
   -- bytes that fit in the block
-  fold-within : (w c : List ℕ) (p : ℕ) → p + length w ≤ 16 → foldl fedByte (state c p keys) w ≡ state (xorFrom c p w) (p + length w) keys
+  pub fold-within : (w c : List ℕ) (p : ℕ) → p + length w ≤ 16 → foldl fedByte (state c p keys) w ≡ state (xorFrom c p w) (p + length w) keys
   unfolding xorAt
   fold-within [] c p h = ap (λ (i : ℕ). state c i keys) (sym (add-zero p))
   fold-within (b ∷ w) c p h =
@@ -82,7 +77,7 @@ module _ (keys : List ℕ) where
       ap (λ (s : CmacState). foldl fedByte s w) (fed-full x keys 16 b (omega arith) ∙ sym (fed-short (ciph x) keys 0 b (omega arith)))
 
   -- the message's last block
-  close-last : (c w : List ℕ) → length c ≡ 16 → length w ≤ 16
+  pub close-last : (c w : List ℕ) → length c ≡ 16 → length w ≤ 16
       → closedBlock (xorFrom c 0 w) (length w) (subkey1 ciph) (subkey2 ciph) ≡ xorBytes c (lastBlock ciph w)
   unfolding closedBlock lastBlock
   close-last c w hc hw =
@@ -99,23 +94,16 @@ module _ (keys : List ℕ) where
       (ap (λ (l : List ℕ). xorBytes l (subkey1 ciph)) (xor-from c w 0 (omega arith) ∙ ap (xorBytes c) (append-nil w))
       ∙ xor-bytes-assoc c w (subkey1 ciph)))
 
-  fold-more : (x w : List ℕ) → 0 < length w → foldl fedByte (state x 16 keys) w ≡ foldl fedByte (state (ciph x) 0 keys) w
+  pub fold-more : (x w : List ℕ) → 0 < length w → foldl fedByte (state x 16 keys) w ≡ foldl fedByte (state (ciph x) 0 keys) w
   fold-more x [] h = absurd (omega arith)
   fold-more x (b ∷ w) h = fold-next x b w
 
   -- a message of n whole blocks and a last one, from the chaining block c
-  abbrev closing : CmacState → List ℕ
-  closing s = closedBlock (s .block) (min (s .pending) 16) (subkey1 ciph) (subkey2 ciph)
-
-  tag-blocks : (n : ℕ) (c m : List ℕ) → length c ≡ 16 → n ≡ (length m - 1) / 16
-      → closing (foldl fedByte (state c 0 keys) m) ≡ xorBytes (chain ciph n c m) (lastBlock ciph (drop (16 * n) m))
+  pub fold-blocks : (n : ℕ) (c m : List ℕ) → length c ≡ 16 → n ≡ (length m - 1) / 16
+      → foldl fedByte (state c 0 keys) m ≡ state (xorFrom (chain ciph n c m) 0 (drop (16 * n) m)) (length (drop (16 * n) m)) keys
   unfolding chain
-  tag-blocks zero c m hc hn =
-      let short : length m ≤ 16 = omega arith in
-      ap closing (fold-within m c 0 (omega arith))
-      ∙ ap (λ (p : ℕ). closedBlock (xorFrom c 0 m) p (subkey1 ciph) (subkey2 ciph)) (ap (λ (p : ℕ). min p 16) (zero-add (length m)) ∙ min-eq-left short)
-      ∙ close-last c m hc short
-  tag-blocks (suc n) c m hc hn =
+  fold-blocks zero c m hc hn = fold-within m c 0 (omega arith) ∙ ap (λ (p : ℕ). state (xorFrom c 0 m) p keys) (zero-add (length m))
+  fold-blocks (suc n) c m hc hn =
       let front = take 16 m in
       let rest = drop 16 m in
       let long : 16 < length m = omega arith in
@@ -125,14 +113,30 @@ module _ (keys : List ℕ) where
       let filled : foldl fedByte (state c 0 keys) front ≡ state x 16 keys =
       fold-within front c 0 (omega arith)
       ∙ ap₂ (λ (l : List ℕ) (p : ℕ). state l p keys) (xor-from c front 0 (omega arith) ∙ ap (xorBytes c) (append-nil front)) (omega arith) in
-      let run : foldl fedByte (state c 0 keys) m ≡ foldl fedByte (state (ciph x) 0 keys) rest =
       ap (foldl fedByte (state c 0 keys)) (sym (take-append-drop 16 m))
       ∙ foldl-append fedByte (state c 0 keys) front rest
       ∙ ap (λ (s : CmacState). foldl fedByte s rest) filled
-      ∙ fold-more x rest (rw length-drop (omega arith)) in
-      ap closing run
-      ∙ tag-blocks n (ciph x) rest (with-length keys x) (rw length-drop (omega arith))
-      ∙ ap (λ (l : List ℕ). xorBytes (chain ciph n (ciph x) rest) (lastBlock ciph l)) (drop-drop (16 * n) 16 m ∙ ap (λ (k : ℕ). drop k m) next)
+      ∙ fold-more x rest (rw length-drop (omega arith))
+      ∙ fold-blocks n (ciph x) rest (with-length keys x) (rw length-drop (omega arith))
+      ∙ ap (λ (l : List ℕ). state (xorFrom (chain ciph n (ciph x) rest) 0 l) (length l) keys) (drop-drop (16 * n) 16 m ∙ ap (λ (k : ℕ). drop k m) next)
+
+  pub chain-length : (n : ℕ) (c m : List ℕ) → length c ≡ 16 → length (chain ciph n c m) ≡ 16
+  unfolding chain
+  chain-length zero c m h = h
+  chain-length (suc n) c m h = chain-length n (ciph (xorBytes c (take 16 m))) (drop 16 m) (with-length keys _)
+
+  tag-blocks : (c m : List ℕ) → length c ≡ 16
+      → let s = foldl fedByte (state c 0 keys) m in
+      let n = (length m - 1) / 16 in
+      closedBlock (s .block) (min (s .pending) 16) (subkey1 ciph) (subkey2 ciph) ≡ xorBytes (chain ciph n c m) (lastBlock ciph (drop (16 * n) m))
+  tag-blocks c m hc =
+      let n = (length m - 1) / 16 in
+      let w = drop (16 * n) m in
+      let short : length w ≤ 16 = rw length-drop (omega arith) in
+      let close : CmacState → List ℕ = λ s. closedBlock (s .block) (min (s .pending) 16) (subkey1 ciph) (subkey2 ciph) in
+      ap close (fold-blocks n c m hc refl)
+      ∙ ap (λ (p : ℕ). closedBlock (xorFrom (chain ciph n c m) 0 w) p (subkey1 ciph) (subkey2 ciph)) (min-eq-left short)
+      ∙ close-last (chain ciph n c m) w (chain-length n c m hc) short
 
 finish-block : (s : CmacState) (ks : List ℕ) → s .keys ≡ ks
     → finished s .block ≡ encryptWith ks (closedBlock (s .block) (min (s .pending) 16) (subkey1 (encryptWith ks)) (subkey2 (encryptWith ks)))
@@ -143,7 +147,7 @@ tag-over : (key m : List ℕ) → finished (fed (keyed key) m) .block ≡ cmacOv
 unfolding cmacOver before fed clamped keyed
 tag-over key m =
     finish-block (fed (keyed key) m) (expandKey key) (fed-keys (keyed key) m)
-    ∙ ap (encryptWith (expandKey key)) (tag-blocks (expandKey key) ((length m - 1) / 16) (replicate 16 0) m refl refl)
+    ∙ ap (encryptWith (expandKey key)) (tag-blocks (expandKey key) (replicate 16 0) m refl)
 
 tag-whole : (key m : List ℕ) → ((i : ℕ) → getD key i 0 < 256) → finished (fed (keyed key) m) .block ≡ cmac key m
 unfolding cmac
@@ -163,7 +167,7 @@ unfolding keyed
 from-keyed key bytes parts = sym (tag-of-parts key bytes (keyed key) refl parts)
 
 pub one-shot-law : OneShot
-unfolding kdf flatten
+unfolding kdf labelled flatten
 one-shot-law = record {
   whole = λ key bytes m. ap (cmac key) (sym (append-nil m)) ∙ from-keyed key bytes (m ∷ []);
   parts = λ key bytes a b. ap (λ (l : List ℕ). cmac key (a ++ l)) (sym (append-nil b)) ∙ from-keyed key bytes (a ∷ b ∷ []);

@@ -1,8 +1,8 @@
 -- 01: a CMAC is begun, fed and finished, and its running state is handed back by value each time. The state is the chaining block with the
 -- pending bytes already added to it, how many those are (01: "fill"), and the expanded key.
-use Prim.Native.Nat.{ℕ, _+_, min}
+use Prim.Native.Nat.{ℕ, suc, _+_, min}
 use mathlib.Core.Bool.{cond}
-use mathlib.Core.List.{List, foldl}
+use mathlib.Core.List.{List, [], _∷_, foldl}
 use lib.Bits.{bitXor}
 use lib.Dec.{ltb}
 use lib.ListN.{getD, set, replicate}
@@ -25,6 +25,11 @@ clamped s = record { block = s .block; pending = min (s .pending) 16; keys = s .
 -- byte i of a block with b added to it
 unfoldable pub xorAt : List ℕ → ℕ → ℕ → List ℕ
 xorAt l i b = set l i (bitXor (getD l i 0) b)
+
+-- bytes added from place p on
+abbrev pub xorFrom : List ℕ → ℕ → List ℕ → List ℕ
+xorFrom c p [] = c
+xorFrom c p (b ∷ w) = xorFrom (xorAt c p b) (suc p) w
 
 -- One byte more. A full block is encrypted only now, since it may have been the last one.
 unfoldable pub fedByte : CmacState → ℕ → CmacState

@@ -15,9 +15,13 @@ authPrefix = 0x41 ∷ 0x55 ∷ 0x54 ∷ 0x48 ∷ []
 unfoldable pub salt : List ℕ → List ℕ → List ℕ
 salt prefix name = take 32 (prefix ++ name)
 
--- K(1) = PRF(K, [1]_8 ‖ Label ‖ 0x00 ‖ [L]_32), with an empty Context and L = 128. The Label is the salt.
+-- [1]_8 ‖ Label ‖ 0x00 ‖ [L]_32, with an empty Context and L = 128. The Label is the salt.
+unfoldable pub labelled : List ℕ → List ℕ
+labelled label = 1 ∷ label ++ 0 ∷ 0 ∷ 0 ∷ 0 ∷ 0x80 ∷ []
+
+-- K(1) = PRF(K, [1]_8 ‖ Label ‖ 0x00 ‖ [L]_32)
 unfoldable pub kdf : List ℕ → List ℕ → List ℕ
-kdf key label = cmac key (1 ∷ label ++ 0 ∷ 0 ∷ 0 ∷ 0 ∷ 0x80 ∷ [])
+kdf key label = cmac key (labelled label)
 
 -- 01: the key derived from the device key for a prefix and a name
 unfoldable pub derivedKey : List ℕ → List ℕ → List ℕ → List ℕ

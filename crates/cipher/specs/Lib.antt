@@ -5,6 +5,7 @@ pub mod Tables
 pub mod Columns
 pub mod Cmac
 pub mod CmacState
+pub mod Pending
 pub mod Ctr
 pub mod Kdf
 pub mod Device

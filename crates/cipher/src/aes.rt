@@ -8,14 +8,14 @@ ghost use Rattle.cipher.specs.Sbox.{subByte, sbox};
 ghost use Rattle.cipher.specs.Tables.{mixTable, mixWord};
 ghost use Rattle.cipher.specs.Aes.{numberWord, rotWord, subWord, mixColumn, diagonal, wordAt, stateOf, blockOf};
 ghost use Rattle.cipher.specs.Aes.{subBytes, shiftRows, mixColumns, addRoundKey, keptKey, encryptWith};
-ghost use Rattle.cipher.specs.Aes.{rcon, nextRoundKey, stateNumbers, expandKey, aes128};
-ghost use Rattle.cipher.specs.Columns.{columnsState};
+ghost use Rattle.cipher.specs.Aes.{wordNumber, rcon, nextRoundKey, stateNumbers, expandKey, cipher, aes128};
+ghost use Rattle.cipher.specs.Columns.{columnsState, wordsState};
 
-struct Columns {
-    c0: u32,
-    c1: u32,
-    c2: u32,
-    c3: u32,
+pub(crate) struct Columns {
+    pub(crate) c0: u32,
+    pub(crate) c1: u32,
+    pub(crate) c2: u32,
+    pub(crate) c3: u32,
 }
 
 fn wide(b: u8) -> u32
@@ -75,16 +75,43 @@ fn mixed(t: &[u32; 256], a: u32, b: u32, c: u32, d: u32) -> u32
     x ^ y ^ z ^ w
 }
 
-// One column of SubBytes and ShiftRows, for the last round.
-fn substituted(s: &[u8; 256], a: u32, b: u32, c: u32, d: u32) -> u32
-    requires { ⌜ now s ≡ sbox ⌝ }
+// The bytes 1 and 2 of an entry are the substitute itself.
+fn entry_high(t: &[u32; 256], b: u32) -> u32
+    requires { ⌜ (now t ≡ mixTable) × (b < 256) ⌝ }
+    ensures { λ r. ⌜ r ≡ subByte b ⌝ }
+{
+    mix_entry(t, b) / 0x10000 % 256
+}
+
+fn entry_low(t: &[u32; 256], b: u32) -> u32
+    requires { ⌜ (now t ≡ mixTable) × (b < 256) ⌝ }
+    ensures { λ r. ⌜ r ≡ subByte b ⌝ }
+{
+    mix_entry(t, b) / 0x100 % 256
+}
+
+// One column of SubBytes and ShiftRows, for the last round. Each byte is read where its shift is the shortest.
+fn unmixed(t: &[u32; 256], a: u32, b: u32, c: u32, d: u32) -> u32
+    requires { ⌜ now t ≡ mixTable ⌝ }
     ensures { λ r. ⌜ numberWord r ≡ subWord (diagonal (numberWord a) (numberWord b) (numberWord c) (numberWord d)) ⌝ }
 {
-    let w = substitute(s, a / 0x1000000);
-    let x = substitute(s, b / 0x10000 % 256);
-    let y = substitute(s, c / 0x100 % 256);
-    let z = substitute(s, d % 256);
+    let w = entry_high(t, a / 0x1000000);
+    let x = entry_high(t, b / 0x10000 % 256);
+    let y = entry_low(t, c / 0x100 % 256);
+    let z = entry_low(t, d % 256);
     word(w, x, y, z)
+}
+
+// SubWord, for the key expansion.
+fn sub_word(s: &[u8; 256], w: u32) -> u32
+    requires { ⌜ now s ≡ sbox ⌝ }
+    ensures { λ r. ⌜ numberWord r ≡ subWord (numberWord w) ⌝ }
+{
+    let b0 = substitute(s, w / 0x1000000);
+    let b1 = substitute(s, w / 0x10000 % 256);
+    let b2 = substitute(s, w / 0x100 % 256);
+    let b3 = substitute(s, w % 256);
+    word(b0, b1, b2, b3)
 }
 
 fn add_round_key(ks: &[u32; 44], r: usize, s: Columns) -> Columns
@@ -100,6 +127,18 @@ fn add_round_key(ks: &[u32; 44], r: usize, s: Columns) -> Columns
     }
 }
 
+// The sum of two states.
+pub(crate) fn add(a: Columns, b: Columns) -> Columns
+    ensures { λ n. ⌜ columnsState n ≡ addRoundKey (columnsState b) (columnsState a) ⌝ }
+{
+    Columns {
+        c0: a.c0 ^ b.c0,
+        c1: a.c1 ^ b.c1,
+        c2: a.c2 ^ b.c2,
+        c3: a.c3 ^ b.c3,
+    }
+}
+
 fn mix_columns(t: &[u32; 256], s: Columns) -> Columns
     requires { ⌜ now t ≡ mixTable ⌝ }
     ensures { λ n. ⌜ columnsState n ≡ mixColumns (shiftRows (subBytes (columnsState s))) ⌝ }
@@ -112,42 +151,51 @@ fn mix_columns(t: &[u32; 256], s: Columns) -> Columns
     }
 }
 
-fn shift_rows(b: &[u8; 256], s: Columns) -> Columns
-    requires { ⌜ now b ≡ sbox ⌝ }
+fn shift_rows(t: &[u32; 256], s: Columns) -> Columns
+    requires { ⌜ now t ≡ mixTable ⌝ }
     ensures { λ n. ⌜ columnsState n ≡ shiftRows (subBytes (columnsState s)) ⌝ }
 {
     Columns {
-        c0: substituted(b, s.c0, s.c1, s.c2, s.c3),
-        c1: substituted(b, s.c1, s.c2, s.c3, s.c0),
-        c2: substituted(b, s.c2, s.c3, s.c0, s.c1),
-        c3: substituted(b, s.c3, s.c0, s.c1, s.c2),
+        c0: unmixed(t, s.c0, s.c1, s.c2, s.c3),
+        c1: unmixed(t, s.c1, s.c2, s.c3, s.c0),
+        c2: unmixed(t, s.c2, s.c3, s.c0, s.c1),
+        c3: unmixed(t, s.c3, s.c0, s.c1, s.c2),
     }
 }
 
-fn word_at(block: &[u8; 16], i: usize) -> u32
-    requires { ⌜ i < 13 ⌝ }
-    ensures { λ r. ⌜ numberWord r ≡ wordAt (now (block .entry)) i ⌝ }
+// Four bytes of a buffer as a word.
+pub(crate) fn word_at(bytes: &[u8], i: usize) -> u32
+    requires { ⌜ i + 4 ≤ length (now bytes) ⌝ }
+    ensures { λ r. ⌜ numberWord r ≡ wordAt (now (bytes .entry)) i ⌝ }
 {
     word(
-        wide(block[i]),
-        wide(block[i + 1]),
-        wide(block[i + 2]),
-        wide(block[i + 3]),
+        wide(bytes[i]),
+        wide(bytes[i + 1]),
+        wide(bytes[i + 2]),
+        wide(bytes[i + 3]),
     )
 }
 
-fn load(block: &[u8; 16]) -> Columns
-    ensures { λ n. ⌜ columnsState n ≡ stateOf (now (block .entry)) ⌝ }
+// Sixteen bytes of a buffer as a state.
+pub(crate) fn load_at(bytes: &[u8], i: usize) -> Columns
+    requires { ⌜ i + 16 ≤ length (now bytes) ⌝ }
+    ensures { λ n. ⌜ columnsState n ≡ stateOf (drop i (now (bytes .entry))) ⌝ }
 {
     Columns {
-        c0: word_at(block, 0),
-        c1: word_at(block, 4),
-        c2: word_at(block, 8),
-        c3: word_at(block, 12),
+        c0: word_at(bytes, i),
+        c1: word_at(bytes, i + 4),
+        c2: word_at(bytes, i + 8),
+        c3: word_at(bytes, i + 12),
     }
 }
 
-fn store(s: Columns) -> [u8; 16]
+pub(crate) fn load(block: &[u8; 16]) -> Columns
+    ensures { λ n. ⌜ columnsState n ≡ stateOf (now (block .entry)) ⌝ }
+{
+    load_at(block, 0)
+}
+
+pub(crate) fn store(s: Columns) -> [u8; 16]
     ensures { λ r. ⌜ r ≡ blockOf (columnsState s) ⌝ }
 {
     [
@@ -170,32 +218,19 @@ fn store(s: Columns) -> [u8; 16]
     ]
 }
 
-const RCON: [u32; 10] = [
-    0x01000000,
-    0x02000000,
-    0x04000000,
-    0x08000000,
-    0x10000000,
-    0x20000000,
-    0x40000000,
-    0x80000000,
-    0x1b000000,
-    0x36000000,
-];
-
-fn round_constant(i: usize) -> u32
-    requires { ⌜ i < 10 ⌝ }
-    ensures { λ r. ⌜ numberWord r ≡ rcon i ⌝ }
+// Rcon[i + 2] from Rcon[i + 1]: times x, in the first byte.
+fn next_constant(i: usize, c: u32) -> u32
+    requires { ⌜ (i < 10) × (c ≡ wordNumber (rcon i)) ⌝ }
+    ensures { λ r. ⌜ r ≡ wordNumber (rcon (i + 1)) ⌝ }
 {
-    RCON[i]
+    if c < 0x80000000 { c * 2 } else { 0x1b000000 }
 }
 
-fn next_round_key(sub: &[u8; 256], i: usize, k: Columns) -> Columns
-    requires { ⌜ (now sub ≡ sbox) × (i < 10) ⌝ }
+fn next_round_key(sub: &[u8; 256], i: usize, c: u32, k: Columns) -> Columns
+    requires { ⌜ (now sub ≡ sbox) × (c ≡ wordNumber (rcon i)) ⌝ }
     ensures { λ n. ⌜ columnsState n ≡ nextRoundKey i (columnsState k) ⌝ }
 {
-    let t = rotate_right_24(k.c3);
-    let c0 = k.c0 ^ (substituted(sub, t, t, t, t) ^ round_constant(i));
+    let c0 = k.c0 ^ (sub_word(sub, rotate_right_24(k.c3)) ^ c);
     let c1 = k.c1 ^ c0;
     let c2 = k.c2 ^ c1;
     let c3 = k.c3 ^ c2;
@@ -213,48 +248,69 @@ fn put_round_key(keys: &mut [u32], r: usize, k: Columns)
     keys[i + 3] = k.c3;
 }
 
-// The 44 words of FIPS 197's key expansion, each with its first byte highest.
+// The 44 words of FIPS 197's key expansion, each with its first byte highest, with the S-box lent.
+pub(crate) fn expand_into(sub: &[u8; 256], key: &[u8; 16], keys: &mut [u32; 44])
+    requires { ⌜ now sub ≡ sbox ⌝ }
+    ensures { λ _. ⌜ now (keys .exit) ≡ expandKey (now (key .entry)) ⌝ }
+{
+    let mut k = load(key);
+    put_round_key(keys, 0, k);
+    let mut c: u32 = 0x01000000;
+    let mut r = 0;
+    while r < 10 {
+        k = next_round_key(sub, r, c, k);
+        c = next_constant(r, c);
+        r += 1;
+        put_round_key(keys, r, k);
+    }
+}
+
 pub fn expand_key(key: &[u8; 16]) -> [u32; 44]
     ensures { λ r. ⌜ r ≡ expandKey (now (key .entry)) ⌝ }
 {
     let sub = tables::sbox_table();
     let mut keys = [0u32; 44];
-    let mut k = load(key);
-    put_round_key(&mut keys, 0, k);
-    let mut r = 0;
-    while r < 10 {
-        k = next_round_key(&sub, r, k);
-        r += 1;
-        put_round_key(&mut keys, r, k);
-    }
+    expand_into(&sub, key, &mut keys);
     keys
 }
 
-// A block under an expanded key, with the tables lent.
-pub(crate) fn encrypt_block(
-    mix: &[u32; 256],
-    sub: &[u8; 256],
+// A state encrypted under an expanded key, with the table lent. Columns are passed as numbers, which stay in registers.
+pub(crate) fn encrypt_words(
+    t: &[u32; 256],
     keys: &[u32; 44],
-    block: &[u8; 16],
-) -> [u8; 16]
-    requires { ⌜ (now mix ≡ mixTable) × (now sub ≡ sbox) ⌝ }
-    ensures { λ r. ⌜ r ≡ encryptWith (now (keys .entry)) (now (block .entry)) ⌝ }
+    c0: u32,
+    c1: u32,
+    c2: u32,
+    c3: u32,
+) -> Columns
+    requires { ⌜ now t ≡ mixTable ⌝ }
+    ensures { λ n. ⌜ columnsState n ≡ cipher (keptKey (now (keys .entry))) (wordsState c0 c1 c2 c3) ⌝ }
 {
-    let mut s = add_round_key(keys, 0, load(block));
+    let mut s = add_round_key(keys, 0, Columns { c0, c1, c2, c3 });
     let mut r = 0;
     while r < 9 {
         r += 1;
-        s = add_round_key(keys, r, mix_columns(mix, s));
+        s = add_round_key(keys, r, mix_columns(t, s));
     }
-    store(add_round_key(keys, 10, shift_rows(sub, s)))
+    add_round_key(keys, 10, shift_rows(t, s))
+}
+
+// A block under an expanded key, with the table lent.
+pub(crate) fn encrypt_block(t: &[u32; 256], keys: &[u32; 44], block: &[u8; 16]) -> [u8; 16]
+    requires { ⌜ now t ≡ mixTable ⌝ }
+    ensures { λ r. ⌜ r ≡ encryptWith (now (keys .entry)) (now (block .entry)) ⌝ }
+{
+    let s = load(block);
+    store(encrypt_words(t, keys, s.c0, s.c1, s.c2, s.c3))
 }
 
 // AES-128: a block encrypted under a key.
 pub fn aes128_encrypt(key: [u8; 16], block: [u8; 16]) -> [u8; 16]
     ensures { λ r. ⌜ r ≡ aes128 key block ⌝ }
 {
-    let mix = tables::mix_table();
+    let t = tables::mix_table();
     let sub = tables::sbox_table();
-    let keys = expand_key(&key);
-    encrypt_block(&mix, &sub, &keys, &block)
+    let mut keys = [0u32; 44];
+    expand_into(&sub, &key, &mut keys);
+    encrypt_block(&t, &keys, &block)
 }

@@ -1,13 +1,19 @@
 // CMAC over AES-128 (SP 800-38B).
 use crate::aes;
+use crate::aes::Columns;
 use crate::num;
 use crate::tables;
 ghost use mathlib.Core.Path.{_≡_};
 ghost use mathlib.Core.List.{_++_};
+ghost use Prim.Native.Nat.{_+_, _-_, _*_, _/_, _%_, _≤_, _<_};
+ghost use lib.ListN.{length, replicate};
 ghost use Rattle.cipher.specs.Sbox.{sbox};
 ghost use Rattle.cipher.specs.Tables.{mixTable};
-ghost use Rattle.cipher.specs.Cmac.{xorBytes, shiftLeft, double, cmac};
-ghost use Rattle.cipher.specs.CmacState.{keyed, begun, fed, finished, closedBlock};
+ghost use Rattle.cipher.specs.Aes.{blockOf, encryptWith};
+ghost use Rattle.cipher.specs.Columns.{columnsState};
+ghost use Rattle.cipher.specs.Cmac.{double, chain, cmacOver, cmac};
+ghost use Rattle.cipher.specs.CmacState.{keyed, begun, fed, finished, xorFrom, closedBlock};
+ghost use Rattle.cipher.specs.Pending.{stateWith, nonePending};
 
 // The running state: the chaining block with the pending bytes added to it, their count, and the expanded key.
 pub struct CmacState {
@@ -16,56 +22,162 @@ pub struct CmacState {
     pub keys: [u32; 44],
 }
 
-// R_128 of SP 800-38B, 5.3.
-const R128: [u8; 16] = [0, 0, 0, 0, 0, 0, 0, 0, 0, 0, 0, 0, 0, 0, 0, 0x87];
-
-fn xor_block(a: [u8; 16], b: [u8; 16]) -> [u8; 16]
-    ensures { λ r. ⌜ r ≡ xorBytes a b ⌝ }
-{
-    let mut r = [0u8; 16];
-    let mut i: usize = 16;
-    while 0 < i {
-        i -= 1;
-        r[i] = a[i] ^ b[i];
-    }
-    r
+// The running state without its key.
+pub(crate) struct Pending {
+    pub(crate) block: [u8; 16],
+    pub(crate) count: usize,
 }
 
-fn shift_left(b: [u8; 16]) -> [u8; 16]
-    ensures { λ r. ⌜ r ≡ shiftLeft b ⌝ }
+// No message yet.
+pub(crate) fn none_pending() -> Pending
+    ensures { λ r. ⌜ r ≡ nonePending ⌝ }
 {
-    let mut r = [0u8; 16];
-    let mut carry: u8 = 0;
-    let mut i: usize = 16;
-    while 0 < i {
-        i -= 1;
-        r[i] = b[i] % 128 * 2 + carry;
-        carry = b[i] / 128;
+    Pending {
+        block: [0; 16],
+        count: 0,
     }
-    r
 }
 
-fn doubled(b: [u8; 16]) -> [u8; 16]
-    ensures { λ r. ⌜ r ≡ double b ⌝ }
+// The bits of a one place to the left, and the first of b behind them.
+fn shifted(a: u32, b: u32) -> u32
+    ensures { λ r. ⌜ r ≡ a % 0x80000000 * 2 + b / 0x80000000 ⌝ }
 {
-    if b[0] < 128 {
-        shift_left(b)
-    } else {
-        xor_block(shift_left(b), R128)
+    a % 0x80000000 * 2 + b / 0x80000000
+}
+
+fn doubled(s: Columns) -> Columns
+    ensures { λ r. ⌜ blockOf (columnsState r) ≡ double (blockOf (columnsState s)) ⌝ }
+{
+    let c0 = shifted(s.c0, s.c1);
+    let c1 = shifted(s.c1, s.c2);
+    let c2 = shifted(s.c2, s.c3);
+    let c3 = shifted(s.c3, 0);
+    if s.c0 < 0x80000000 {
+        return Columns { c0, c1, c2, c3 };
     }
+    // R_128 of SP 800-38B, 5.3.
+    let c3 = c3 ^ 0x87;
+    Columns { c0, c1, c2, c3 }
+}
+
+// Bytes added to a block, from a place on.
+fn add_bytes(block: [u8; 16], at: usize, data: &[u8]) -> [u8; 16]
+    requires { ⌜ at + length (now «data») ≤ 16 ⌝ }
+    ensures { λ r. ⌜ r ≡ xorFrom block at (now («data» .entry)) ⌝ }
+{
+    let mut sum = block;
+    let mut i = 0;
+    while i < data.len() {
+        sum[at + i] = sum[at + i] ^ data[i];
+        i += 1;
+    }
+    sum
+}
+
+// Whole blocks of a message, each added and then encrypted.
+fn chain_blocks(t: &[u32; 256], keys: &[u32; 44], s: Columns, data: &[u8]) -> Columns
+    requires { ⌜ now t ≡ mixTable ⌝ }
+    ensures { λ r. ⌜ blockOf (columnsState r) ≡ chain (encryptWith (now (keys .entry))) (length (now («data» .entry)) / 16) (blockOf (columnsState s)) (now («data» .entry)) ⌝ }
+{
+    let mut chained = s;
+    let mut i = 0;
+    while 16 <= data.len() - i {
+        let x = aes::add(chained, aes::load_at(data, i));
+        chained = aes::encrypt_words(t, keys, x.c0, x.c1, x.c2, x.c3);
+        i += 16;
+    }
+    chained
+}
+
+// The bytes before the last block, which is never empty unless the message is.
+fn before_last(len: usize) -> usize
+    ensures { λ r. ⌜ r ≡ 16 * ((len - 1) / 16) ⌝ }
+{
+    if len == 0 { 0 } else { (len - 1) / 16 * 16 }
 }
 
 // The last block, padded unless it is full, with its subkey added.
-fn close_block(block: [u8; 16], pending: usize, subkey1: [u8; 16], subkey2: [u8; 16]) -> [u8; 16]
-    ensures { λ r. ⌜ r ≡ closedBlock block pending subkey1 subkey2 ⌝ }
+fn close_block(block: [u8; 16], pending: usize, zero: Columns) -> Columns
+    ensures { λ r. ⌜ blockOf (columnsState r) ≡ closedBlock block pending (double (blockOf (columnsState zero))) (double (double (blockOf (columnsState zero)))) ⌝ }
 {
+    let subkey1 = doubled(zero);
     if pending < 16 {
         let mut padded = block;
         padded[pending] = padded[pending] ^ 0x80;
-        xor_block(padded, subkey2)
-    } else {
-        xor_block(block, subkey1)
+        return aes::add(aes::load(&padded), doubled(subkey1));
     }
+    aes::add(aes::load(&block), subkey1)
+}
+
+// The block of zeros encrypted, from which the subkeys are made.
+pub(crate) fn zero_block(t: &[u32; 256], keys: &[u32; 44]) -> Columns
+    requires { ⌜ now t ≡ mixTable ⌝ }
+    ensures { λ r. ⌜ blockOf (columnsState r) ≡ encryptWith (now (keys .entry)) (replicate 16 0) ⌝ }
+{
+    aes::encrypt_words(t, keys, 0, 0, 0, 0)
+}
+
+// Bytes behind a full block, which is encrypted now that another comes: whole blocks follow, and one to sixteen bytes are kept.
+fn absorb_behind(t: &[u32; 256], keys: &[u32; 44], block: [u8; 16], data: &[u8]) -> Pending
+    requires { ⌜ (now t ≡ mixTable) × (0 < length (now «data»)) ⌝ }
+    ensures { λ r. ⌜ stateWith r (now (keys .entry)) ≡ fed (record { block = block; pending = 16; keys = now (keys .entry) }) (now («data» .entry)) ⌝ }
+{
+    let full = aes::load(&block);
+    let next = aes::encrypt_words(t, keys, full.c0, full.c1, full.c2, full.c3);
+    let end = before_last(data.len());
+    let chained = chain_blocks(t, keys, next, &data[..end]);
+    let last = &data[end..];
+    Pending {
+        block: add_bytes(aes::store(chained), 0, last),
+        count: last.len(),
+    }
+}
+
+// Bytes fill the pending block first.
+pub(crate) fn absorb(t: &[u32; 256], keys: &[u32; 44], from: Pending, data: &[u8]) -> Pending
+    requires { ⌜ now t ≡ mixTable ⌝ }
+    ensures { λ r. ⌜ stateWith r (now (keys .entry)) ≡ fed (stateWith from (now (keys .entry))) (now («data» .entry)) ⌝ }
+{
+    let block = from.block;
+    let p = num::least(from.count, 16);
+    let n = num::least(16 - p, data.len());
+    let filled = add_bytes(block, p, &data[..n]);
+    if n == data.len() {
+        return Pending {
+            block: filled,
+            count: p + n,
+        };
+    }
+    absorb_behind(t, keys, filled, &data[n..])
+}
+
+// The tag of what was absorbed.
+pub(crate) fn close(t: &[u32; 256], keys: &[u32; 44], zero: Columns, from: Pending) -> [u8; 16]
+    requires { ⌜ (now t ≡ mixTable) × (blockOf (columnsState zero) ≡ encryptWith (now keys) (replicate 16 0)) ⌝ }
+    ensures { λ r. ⌜ r ≡ finished (stateWith from (now (keys .entry))) .block ⌝ }
+{
+    let block = from.block;
+    let x = close_block(block, num::least(from.count, 16), zero);
+    aes::store(aes::encrypt_words(t, keys, x.c0, x.c1, x.c2, x.c3))
+}
+
+// The tag of a whole message under an expanded key. The last block does not wait for the chain.
+pub(crate) fn tag_of(t: &[u32; 256], keys: &[u32; 44], zero: Columns, message: &[u8]) -> [u8; 16]
+    requires { ⌜ (now t ≡ mixTable) × (blockOf (columnsState zero) ≡ encryptWith (now keys) (replicate 16 0)) ⌝ }
+    ensures { λ r. ⌜ r ≡ cmacOver (encryptWith (now (keys .entry))) (now (message .entry)) ⌝ }
+{
+    let end = before_last(message.len());
+    let start = Columns {
+        c0: 0,
+        c1: 0,
+        c2: 0,
+        c3: 0,
+    };
+    let chained = chain_blocks(t, keys, start, &message[..end]);
+    let rest = &message[end..];
+    let last = add_bytes([0; 16], 0, rest);
+    let x = aes::add(chained, close_block(last, rest.len(), zero));
+    aes::store(aes::encrypt_words(t, keys, x.c0, x.c1, x.c2, x.c3))
 }
 
 impl CmacState {
@@ -93,68 +205,43 @@ impl CmacState {
         }
     }
 
-    // Feed, with the tables lent.
-    pub(crate) fn absorb(self, mix: &[u32; 256], sub: &[u8; 256], data: &[u8]) -> Self
-        requires { ⌜ (now mix ≡ mixTable) × (now sub ≡ sbox) ⌝ }
-        ensures { λ r. ⌜ r ≡ fed self (now («data» .entry)) ⌝ }
-    {
-        let keys = self.keys;
-        let mut block = self.block;
-        let mut pending = num::least(self.pending, 16);
-        let mut i = 0;
-        while i < data.len() {
-            if pending < 16 {
-                block[pending] = block[pending] ^ data[i];
-                pending += 1;
-                i += 1;
-            } else {
-                block = aes::encrypt_block(mix, sub, &keys, &block);
-                block[0] = block[0] ^ data[i];
-                pending = 1;
-                i += 1;
-            }
-        }
-        CmacState {
-            block,
-            pending,
-            keys,
-        }
-    }
-
-    // Finish, with the tables lent.
-    pub(crate) fn close(self, mix: &[u32; 256], sub: &[u8; 256]) -> Self
-        requires { ⌜ (now mix ≡ mixTable) × (now sub ≡ sbox) ⌝ }
-        ensures { λ r. ⌜ r ≡ finished self ⌝ }
-    {
-        let keys = self.keys;
-        let zero = [0u8; 16];
-        let subkey1 = doubled(aes::encrypt_block(mix, sub, &keys, &zero));
-        let subkey2 = doubled(subkey1);
-        let block = self.block;
-        let last = close_block(block, num::least(self.pending, 16), subkey1, subkey2);
-        CmacState {
-            block: aes::encrypt_block(mix, sub, &keys, &last),
-            pending: 0,
-            keys,
-        }
-    }
-
     // The state after more bytes of the message.
     pub fn feed(self, data: &[u8]) -> Self
         ensures { λ r. ⌜ r ≡ fed self (now («data» .entry)) ⌝ }
     {
-        let mix = tables::mix_table();
-        let sub = tables::sbox_table();
-        self.absorb(&mix, &sub, data)
+        let t = tables::mix_table();
+        let keys = self.keys;
+        let block = self.block;
+        let from = Pending {
+            block,
+            count: self.pending,
+        };
+        let end = absorb(&t, &keys, from, data);
+        let block = end.block;
+        CmacState {
+            block,
+            pending: end.count,
+            keys,
+        }
     }
 
     // The state after the message's end: its block is the tag.
     pub fn finish(self) -> Self
         ensures { λ r. ⌜ r ≡ finished self ⌝ }
     {
-        let mix = tables::mix_table();
-        let sub = tables::sbox_table();
-        self.close(&mix, &sub)
+        let t = tables::mix_table();
+        let keys = self.keys;
+        let block = self.block;
+        let from = Pending {
+            block,
+            count: self.pending,
+        };
+        let tag = close(&t, &keys, zero_block(&t, &keys), from);
+        CmacState {
+            block: tag,
+            pending: 0,
+            keys,
+        }
     }
 }
 
@@ -162,12 +249,11 @@ impl CmacState {
 pub fn cmac_tag(key: [u8; 16], message: &[u8]) -> [u8; 16]
     ensures { λ r. ⌜ r ≡ cmac key (now (message .entry)) ⌝ }
 {
-    let mix = tables::mix_table();
+    let t = tables::mix_table();
     let sub = tables::sbox_table();
-    let end = CmacState::keyed(key)
-        .absorb(&mix, &sub, message)
-        .close(&mix, &sub);
-    end.block
+    let mut keys = [0u32; 44];
+    aes::expand_into(&sub, &key, &mut keys);
+    tag_of(&t, &keys, zero_block(&t, &keys), message)
 }
 
 // The tag of a message in two parts, with the tables lent.
@@ -181,16 +267,9 @@ pub fn tag_parts(
     requires { ⌜ (now mix ≡ mixTable) × (now sub ≡ sbox) ⌝ }
     ensures { λ r. ⌜ r ≡ cmac key (now (first .entry) ++ now (second .entry)) ⌝ }
 {
-    cmac_tag_parts(key, first, second)
-}
-
-// The tag of a message in two parts.
-pub fn cmac_tag_parts(key: [u8; 16], first: &[u8], second: &[u8]) -> [u8; 16]
-    ensures { λ r. ⌜ r ≡ cmac key (now (first .entry) ++ now (second .entry)) ⌝ }
-{
-    let mix = tables::mix_table();
-    let sub = tables::sbox_table();
-    let start = CmacState::keyed(key).absorb(&mix, &sub, first);
-    let end = start.absorb(&mix, &sub, second).close(&mix, &sub);
-    end.block
+    let mut keys = [0u32; 44];
+    aes::expand_into(sub, &key, &mut keys);
+    let start = absorb(mix, &keys, none_pending(), first);
+    let end = absorb(mix, &keys, start, second);
+    close(mix, &keys, zero_block(mix, &keys), end)
 }

@@ -1,59 +1,103 @@
 // Counter mode over AES-128 (SP 800-38A, 6.5). The counter block is an 8-byte IV, then a 64-bit big-endian count.
+
 use crate::aes;
+use crate::aes::Columns;
+use crate::num;
 use crate::tables;
 ghost use mathlib.Core.Path.{_≡_};
+ghost use mathlib.Core.List.{_++_};
+ghost use Prim.Native.Nat.{_+_, _≤_};
+ghost use lib.ListN.{length, take, drop};
 ghost use Rattle.cipher.specs.Sbox.{sbox};
 ghost use Rattle.cipher.specs.Tables.{mixTable};
-ghost use Rattle.cipher.specs.Ctr.{counterBlock, ctrAt, ctr};
+ghost use Rattle.cipher.specs.Aes.{numberWord, wordAt, wordBytes, xorWord, stateOf, blockOf, encryptWith};
+ghost use Rattle.cipher.specs.Columns.{columnsState};
+ghost use Rattle.cipher.specs.Cmac.{xorBytes};
+ghost use Rattle.cipher.specs.Ctr.{counterBlock, ctrFrom, ctrAt, ctr};
 
-fn counter_block(iv: [u8; 8], count: u64) -> [u8; 16]
-    ensures { λ r. ⌜ r ≡ counterBlock iv count ⌝ }
+// The counter block as a state: the IV's two words, then the count's.
+fn counter_columns(iv: [u8; 8], count: u64) -> Columns
+    ensures { λ r. ⌜ columnsState r ≡ stateOf (counterBlock iv count) ⌝ }
 {
-    [
-        iv[0],
-        iv[1],
-        iv[2],
-        iv[3],
-        iv[4],
-        iv[5],
-        iv[6],
-        iv[7],
-        (count / 0x100000000000000 % 256) as u8,
-        (count / 0x1000000000000 % 256) as u8,
-        (count / 0x10000000000 % 256) as u8,
-        (count / 0x100000000 % 256) as u8,
-        (count / 0x1000000 % 256) as u8,
-        (count / 0x10000 % 256) as u8,
-        (count / 0x100 % 256) as u8,
-        (count % 256) as u8,
-    ]
+    Columns {
+        c0: aes::word_at(&iv, 0),
+        c1: aes::word_at(&iv, 4),
+        c2: (count / 0x100000000) as u32,
+        c3: (count % 0x100000000) as u32,
+    }
+}
+
+// Four bytes of a buffer and a word added. Read and written side by side, they are one load and one store each.
+fn add_word(buf: &mut [u8], i: usize, w: u32)
+    requires { ⌜ i + 4 ≤ length (now buf) ⌝ }
+    ensures { λ _. ⌜ now (buf .exit) ≡ take i (now (buf .entry)) ++ wordBytes (xorWord (wordAt (now (buf .entry)) i) (numberWord w)) ++ drop (i + 4) (now (buf .entry)) ⌝ }
+{
+    let x = aes::word_at(buf, i) ^ w;
+    buf[i] = (x / 0x1000000 % 256) as u8;
+    buf[i + 1] = (x / 0x10000 % 256) as u8;
+    buf[i + 2] = (x / 0x100 % 256) as u8;
+    buf[i + 3] = (x % 256) as u8;
+}
+
+fn add_block(part: &mut [u8], s: Columns)
+    requires { ⌜ length (now part) ≡ 16 ⌝ }
+    ensures { λ _. ⌜ now (part .exit) ≡ xorBytes (now (part .entry)) (blockOf (columnsState s)) ⌝ }
+{
+    add_word(part, 0, s.c0);
+    add_word(part, 4, s.c1);
+    add_word(part, 8, s.c2);
+    add_word(part, 12, s.c3);
+}
+
+fn add_front(part: &mut [u8], stream: [u8; 16])
+    requires { ⌜ length (now part) ≤ 16 ⌝ }
+    ensures { λ _. ⌜ now (part .exit) ≡ xorBytes (now (part .entry)) stream ⌝ }
+{
+    let mut i: usize = 0;
+    while i < part.len() {
+        part[i] = part[i] ^ stream[i];
+        i += 1;
+    }
+}
+
+// A block of the key stream added to a block of the message, or its front to the last partial one.
+fn add_stream(part: &mut [u8], s: Columns)
+    requires { ⌜ length (now part) ≤ 16 ⌝ }
+    ensures { λ _. ⌜ now (part .exit) ≡ xorBytes (now (part .entry)) (blockOf (columnsState s)) ⌝ }
+{
+    if part.len() == 16 {
+        add_block(part, s);
+    } else {
+        add_front(part, aes::store(s));
+    }
+}
+
+// A buffer encrypted or decrypted in place under an expanded key, the first block's count given.
+fn crypt_blocks(t: &[u32; 256], keys: &[u32; 44], iv: [u8; 8], count: u64, buf: &mut [u8])
+    requires { ⌜ now t ≡ mixTable ⌝ }
+    ensures { λ _. ⌜ now (buf .exit) ≡ ctrFrom (encryptWith (now (keys .entry))) iv count 0 (now (buf .entry)) ⌝ }
+{
+    let mut blocks: u64 = 0;
+    let mut i: usize = 0;
+    while i < buf.len() {
+        let end = i + num::least(16, buf.len() - i);
+        let x = counter_columns(iv, std::num::wrapping_add_u64(count, blocks));
+        let s = aes::encrypt_words(t, keys, x.c0, x.c1, x.c2, x.c3);
+        add_stream(&mut buf[i..end], s);
+        blocks += 1;
+        i = end;
+    }
 }
 
 // A buffer encrypted or decrypted in place, the first block's count given.
 pub fn ctr_xor_at(key: [u8; 16], iv: [u8; 8], count: u64, buf: &mut [u8])
     ensures { λ _. ⌜ now (buf .exit) ≡ ctrAt key iv count (now (buf .entry)) ⌝ }
 {
-    let mix = tables::mix_table();
+    let t = tables::mix_table();
     let sub = tables::sbox_table();
-    let keys = aes::expand_key(&key);
-    let mut stream = [0u8; 16];
-    let mut used: usize = 16;
-    let mut blocks: u64 = 0;
-    let mut i: usize = 0;
-    while i < buf.len() {
-        if used < 16 {
-            buf[i] = buf[i] ^ stream[used];
-            used += 1;
-            i += 1;
-        } else {
-            let block = counter_block(iv, std::num::wrapping_add_u64(count, blocks));
-            stream = aes::encrypt_block(&mix, &sub, &keys, &block);
-            buf[i] = buf[i] ^ stream[0];
-            used = 1;
-            blocks += 1;
-            i += 1;
-        }
-    }
+    let mut keys = [0u32; 44];
+    aes::expand_into(&sub, &key, &mut keys);
+    crypt_blocks(&t, &keys, iv, count, buf)
 }
 
 // A buffer encrypted or decrypted in place, the count from 0, with the tables lent.
@@ -61,7 +105,9 @@ pub fn crypt(mix: &[u32; 256], sub: &[u8; 256], key: [u8; 16], iv: [u8; 8], buf:
     requires { ⌜ (now mix ≡ mixTable) × (now sub ≡ sbox) ⌝ }
     ensures { λ _. ⌜ now (buf .exit) ≡ ctr key iv (now (buf .entry)) ⌝ }
 {
-    ctr_xor(key, iv, buf)
+    let mut keys = [0u32; 44];
+    aes::expand_into(sub, &key, &mut keys);
+    crypt_blocks(mix, &keys, iv, 0, buf)
 }
 
 // A buffer encrypted or decrypted in place, the count from 0.

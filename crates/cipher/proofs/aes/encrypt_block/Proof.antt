@@ -1,84 +1,26 @@
--- `cipher::aes::encrypt_block`. The invariant: `s` is the state after r rounds.
-use mathlib.Core.Path.{_≡_, ap, _∙_}
-use Prim.Native.Nat.{_≤_, _-_}
-use native.Mathlib.Numerals.{add-one}
-use native.Mathlib.Omega.{arith}
+-- `cipher::aes::encrypt_block`: the block as a state, encrypted, and as a block again.
+use mathlib.Core.Path.{ap, _∙_}
 use borrow.Author.Needs.{needs}
-use Rattle.cipher.specs.Aes.{State, afterRounds, mixColumns, shiftRows, subBytes, blockOf, keptKey, stateOf, addRoundKey, encryptWith, cipher}
-use Rattle.cipher.specs.Columns.{columnsState}
+use Rattle.cipher.specs.Aes.{blockOf, keptKey, encryptWith, cipher}
+use Rattle.cipher.specs.Columns.{columnsState, wordsState}
 use Rattle.cipher.proofs.aes.encrypt_block.Statement.{statement}
 use Rattle.cipher.proofs.aes.encrypt_block.Tie as tie
 
-abbrev Inv-loop : tie.InvT-loop
-Inv-loop mix sub keys block s₀ r₀ s r = (r ≤ 9) × (columnsState s ≡ afterRounds (keptKey keys) r (stateOf block))
-
-abbrev μ-loop : tie.MeasureT-loop
-μ-loop mix sub keys block s₀ r₀ s r = 9 - r
-
-load-requires : tie.Need-load-requires Inv-loop μ-loop
+load-requires : tie.Need-load-requires
 load-requires c κs = search needs
 
-add-round-key-requires : tie.Need-add-round-key-requires Inv-loop μ-loop
-add-round-key-requires c κs = search needs
+encrypt-words-requires : tie.Need-encrypt-words-requires
+encrypt-words-requires c κs = search needs
 
-loop-holds : tie.Need-loop-holds Inv-loop μ-loop
-unfolding afterRounds
-loop-holds c = (search needs, c .add-round-key .ensures ∙ ap (addRoundKey _) (c .before .load .ensures))
-
-add-r : tie.Need-add-r Inv-loop μ-loop
-add-r c = search needs
-
-mix-columns-requires : tie.Need-mix-columns-requires Inv-loop μ-loop
-mix-columns-requires c κs = search needs
-
-add-round-key-requires-2 : tie.Need-add-round-key-requires-2 Inv-loop μ-loop
-add-round-key-requires-2 c κs = search needs
-
-loop-less : tie.Need-loop-less Inv-loop μ-loop
-loop-less c = search needs
-
-loop-again : tie.Need-loop-again Inv-loop μ-loop
-unfolding afterRounds
-loop-again c =
-    let mixed = c .before in
-    let l = mixed .before .before .loop in
-    let same = mixed .mix-columns .ensures ∙ ap (λ (t : State). mixColumns (shiftRows (subBytes t))) (l .inv .1) in
-    (search needs, rw add-one (rw add-one at (c .add-round-key2 .ensures) ∙ ap (addRoundKey _) same))
-
-shift-rows-requires : tie.Need-shift-rows-requires Inv-loop μ-loop
-shift-rows-requires c κs = search needs
-
-add-round-key-requires-3 : tie.Need-add-round-key-requires-3 Inv-loop μ-loop
-add-round-key-requires-3 c κs = search needs
-
-store-requires : tie.Need-store-requires Inv-loop μ-loop
+store-requires : tie.Need-store-requires
 store-requires c κs = search needs
 
-returns : tie.Need-returns Inv-loop μ-loop
-unfolding encryptWith cipher
+returns : tie.Need-returns
+unfolding encryptWith columnsState wordsState
 returns c =
-    let l = c .before .before .before .before .loop in
-    let nine : l .r ≡ 9 = omega arith in
-    c .store .ensures
-    ∙ ap blockOf
-    (c .before .add-round-key3 .ensures
-    ∙ ap (addRoundKey _) (c .before .before .shift-rows .ensures ∙ ap (λ (t : State). shiftRows (subBytes t)) (rw nine at (l .inv .1))))
+    let encrypted = c .before in
+    let loaded = encrypted .before in
+    c .store .ensures ∙ ap blockOf (encrypted .encrypt-words .ensures ∙ ap (cipher (keptKey _)) (loaded .load .ensures))
 
 pub encrypt-block-spec : {M : Type 1} → statement M
-encrypt-block-spec =
-    tie.close
-    (tie.spec
-    Inv-loop
-    μ-loop
-    load-requires
-    add-round-key-requires
-    loop-holds
-    add-r
-    mix-columns-requires
-    add-round-key-requires-2
-    loop-less
-    loop-again
-    shift-rows-requires
-    add-round-key-requires-3
-    store-requires
-    returns)
+encrypt-block-spec = tie.close (tie.spec load-requires encrypt-words-requires store-requires returns)

@@ -7,8 +7,8 @@ use Rattle.cipher.proofs.Words.{word-of, word-ext}
 use Rattle.cipher.proofs.aes.word_at.Statement.{statement}
 use Rattle.cipher.proofs.aes.word_at.Tie as tie
 
-element-copy-out-wide : tie.Need-element-copy-out-wide
-element-copy-out-wide c = search needs
+shared-slice-read-wide : tie.Need-shared-slice-read-wide
+shared-slice-read-wide c = search needs
 
 wide-requires : tie.Need-wide-requires
 wide-requires c κs = search needs
@@ -16,8 +16,8 @@ wide-requires c κs = search needs
 add-wide : tie.Need-add-wide
 add-wide c = search needs
 
-element-copy-out-wide-2 : tie.Need-element-copy-out-wide-2
-element-copy-out-wide-2 c = search needs
+shared-slice-read-wide-2 : tie.Need-shared-slice-read-wide-2
+shared-slice-read-wide-2 c = search needs
 
 wide-requires-2 : tie.Need-wide-requires-2
 wide-requires-2 c κs = search needs
@@ -25,8 +25,8 @@ wide-requires-2 c κs = search needs
 add-wide-2 : tie.Need-add-wide-2
 add-wide-2 c = search needs
 
-element-copy-out-wide-3 : tie.Need-element-copy-out-wide-3
-element-copy-out-wide-3 c = search needs
+shared-slice-read-wide-3 : tie.Need-shared-slice-read-wide-3
+shared-slice-read-wide-3 c = search needs
 
 wide-requires-3 : tie.Need-wide-requires-3
 wide-requires-3 c κs = search needs
@@ -34,8 +34,8 @@ wide-requires-3 c κs = search needs
 add-wide-3 : tie.Need-add-wide-3
 add-wide-3 c = search needs
 
-element-copy-out-wide-4 : tie.Need-element-copy-out-wide-4
-element-copy-out-wide-4 c = search needs
+shared-slice-read-wide-4 : tie.Need-shared-slice-read-wide-4
+shared-slice-read-wide-4 c = search needs
 
 wide-requires-4 : tie.Need-wide-requires-4
 wide-requires-4 c κs = search needs
@@ -56,16 +56,16 @@ pub word-at-spec : {M : Type 1} → statement M
 word-at-spec =
     tie.close
     (tie.spec
-    element-copy-out-wide
+    shared-slice-read-wide
     wide-requires
     add-wide
-    element-copy-out-wide-2
+    shared-slice-read-wide-2
     wide-requires-2
     add-wide-2
-    element-copy-out-wide-3
+    shared-slice-read-wide-3
     wide-requires-3
     add-wide-3
-    element-copy-out-wide-4
+    shared-slice-read-wide-4
     wide-requires-4
     word-requires
     returns)

@@ -1,40 +1,57 @@
 -- `cipher::cmac::doubled`: R_128 is added where the first bit is set.
-use mathlib.Core.Path.{ap, _∙_}
-use mathlib.Core.List.{List}
-use Prim.Native.Nat.{ℕ}
-use borrow.Author.Tests.{lt-ltb, le-ltb}
+use Prim.Native.Nat.{_^_, _<_}
 use borrow.Author.Needs.{needs}
-use Rattle.cipher.specs.Cmac.{double, r128, xorBytes}
+use Rattle.cipher.specs.Columns.{columnsState, wordsState}
+use Rattle.cipher.proofs.Doubling.{double-low, double-high}
 use Rattle.cipher.proofs.cmac.doubled.Statement.{statement}
 use Rattle.cipher.proofs.cmac.doubled.Tie as tie
 
-array-read-if1 : tie.Need-array-read-if1
-array-read-if1 c = search needs
+shifted-requires : tie.Need-shifted-requires
+shifted-requires c κs = search needs
 
-shift-left-requires : tie.Need-shift-left-requires
-shift-left-requires c κs = search needs
+shifted-requires-2 : tie.Need-shifted-requires-2
+shifted-requires-2 c κs = search needs
 
-shift-left-requires-2 : tie.Need-shift-left-requires-2
-shift-left-requires-2 c κs = search needs
+shifted-requires-3 : tie.Need-shifted-requires-3
+shifted-requires-3 c κs = search needs
 
-xor-block-requires : tie.Need-xor-block-requires
-xor-block-requires c κs = search needs
+shifted-requires-4 : tie.Need-shifted-requires-4
+shifted-requires-4 c κs = search needs
+
+numbers : (c : tie.Start) → let s = c .args .s in (s .c0 < 2 ^ 32) × (s .c1 < 2 ^ 32) × (s .c2 < 2 ^ 32) × (s .c3 < 2 ^ 32)
+numbers c = (search needs, search needs, search needs, search needs)
 
 returns : tie.Need-returns
-unfolding double
-returns c = rw (lt-ltb _ _ (c .before .if1 .taken)) (c .shift-left .ensures)
+unfolding columnsState wordsState
+returns c =
+    let fourth = c .before .before in
+    let third = fourth .before in
+    let second = third .before in
+    let first = second .before in
+    let s = first .before .args .s in
+    let h = numbers (first .before) in
+    rw (first .shifted .ensures, second .shifted2 .ensures, third .shifted3 .ensures, fourth .shifted4 .ensures)
+    (double-low (s .c0) (s .c1) (s .c2) (s .c3) (h .0) (h .1) (h .2) (h .3) (c .if1 .taken))
 
 returns-2 : tie.Need-returns-2
-unfolding double r128
-returns-2 c = rw (le-ltb _ _ (c .before .before .if1 .left)) (c .xor-block .ensures ∙ ap (λ (l : List ℕ). xorBytes l r128) (c .before .shift-left2 .ensures))
+unfolding columnsState wordsState
+returns-2 c =
+    let fourth = c .before .before in
+    let third = fourth .before in
+    let second = third .before in
+    let first = second .before in
+    let s = first .before .args .s in
+    let h = numbers (first .before) in
+    rw (first .shifted .ensures, second .shifted2 .ensures, third .shifted3 .ensures, fourth .shifted4 .ensures)
+    (double-high (s .c0) (s .c1) (s .c2) (s .c3) (h .0) (h .1) (h .2) (h .3) (c .if1 .left))
 
 pub doubled-spec : {M : Type 1} → statement M
 doubled-spec =
     tie.close
     (tie.spec
-    array-read-if1
-    shift-left-requires
-    shift-left-requires-2
-    xor-block-requires
+    shifted-requires
+    shifted-requires-2
+    shifted-requires-3
+    shifted-requires-4
     returns
     returns-2)

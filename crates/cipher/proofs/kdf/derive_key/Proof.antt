@@ -1,48 +1,43 @@
--- `cipher::kdf::derive_key`: the two parts, each cut, are the salt.
-use mathlib.Core.Path.{ap, _∙_}
-use native.Mathlib.Omega.{arith}
-use lib.ListN.{length-take}
+-- `cipher::kdf::derive_key`: the derivation under the expanded key.
+use mathlib.Core.Path.{_∙_}
+use mir.Syntax.{w8}
 use borrow.Author.Needs.{needs}
-use Rattle.cipher.specs.Kdf.{kdf, derivedKey, salt}
-use Rattle.cipher.proofs.Salt.{cut-parts}
+use Rattle.cipher.specs.Kdf.{kdf, derivedKey}
+use Rattle.cipher.proofs.Arrays.{array-fits}
+use Rattle.cipher.proofs.Feeding.{under-key}
 use Rattle.cipher.proofs.kdf.derive_key.Statement.{statement}
 use Rattle.cipher.proofs.kdf.derive_key.Tie as tie
 
-least-requires : tie.Need-least-requires
-least-requires c κs = search needs
+mix-table-requires : tie.Need-mix-table-requires
+mix-table-requires c κs = search needs
 
-sub-least : tie.Need-sub-least
-sub-least c = search needs
+sbox-table-requires : tie.Need-sbox-table-requires
+sbox-table-requires c κs = search needs
 
-least-requires-2 : tie.Need-least-requires-2
-least-requires-2 c κs = search needs
+expand-into-requires : tie.Need-expand-into-requires
+expand-into-requires c κs = search needs
 
-slice-aggregate-kdf-counter-cmac : tie.Need-slice-aggregate-kdf-counter-cmac
-slice-aggregate-kdf-counter-cmac c = simp length-take (omega arith)
+zero-block-requires : tie.Need-zero-block-requires
+zero-block-requires c κs = search needs
 
-slice-aggregate-kdf-counter-cmac-2 : tie.Need-slice-aggregate-kdf-counter-cmac-2
-slice-aggregate-kdf-counter-cmac-2 c = simp length-take (omega arith)
-
-kdf-counter-cmac-requires : tie.Need-kdf-counter-cmac-requires
-kdf-counter-cmac-requires c κs = search needs
+derive-requires : tie.Need-derive-requires
+derive-requires c κs = search needs
 
 returns : tie.Need-returns
-unfolding derivedKey salt
+unfolding derivedKey kdf
 returns c =
-    let second = c .before .before .before in
-    let first = second .before in
-    let start = first .before .before .before in
-    let cut = cut-parts 32 _ _ (start .args .prefix .now) (start .args .name .now) (first .least .ensures) (second .least2 .ensures) in
-    c .kdf-counter-cmac .ensures ∙ ap (kdf _) cut
+    let expanded = c .before .before .before .before .before .before in
+    let start = expanded .before .before .before .before .before .before .before .before in
+    let key = start .args .t1 in
+    c .derive .ensures ∙ under-key key _ _ (array-fits w8 16 key _ (start .good .0)) (expanded .expand-into .ensures)
 
 pub derive-key-spec : {M : Type 1} → statement M
 derive-key-spec =
     tie.close
     (tie.spec
-    least-requires
-    sub-least
-    least-requires-2
-    slice-aggregate-kdf-counter-cmac
-    slice-aggregate-kdf-counter-cmac-2
-    kdf-counter-cmac-requires
+    mix-table-requires
+    sbox-table-requires
+    expand-into-requires
+    zero-block-requires
+    derive-requires
     returns)

@@ -10,11 +10,14 @@ use Rattle.cipher.specs.Device.{prepared}
 use Rattle.cipher.proofs.kdf.prepare.Statement.{statement}
 use Rattle.cipher.proofs.kdf.prepare.Tie as tie
 
-expand-key-requires : tie.Need-expand-key-requires
-expand-key-requires c κs = search needs
+expand-into-requires : tie.Need-expand-into-requires
+expand-into-requires c κs = search needs
 
-encrypt-block-requires : tie.Need-encrypt-block-requires
-encrypt-block-requires c κs = search needs
+zero-block-requires : tie.Need-zero-block-requires
+zero-block-requires c κs = search needs
+
+store-requires : tie.Need-store-requires
+store-requires c κs = search needs
 
 parts : (key ks z : List ℕ) → ks ≡ expandKey key → z ≡ encryptWith ks (replicate 16 0)
     → _≡_ {A = DeviceKey} (record { key = key; keys = ks; zero = z }) (prepared key)
@@ -22,7 +25,7 @@ unfolding prepared
 parts key ks z e f = λ i. record { key = key; keys = e i; zero = (f ∙ ap (λ (w : List ℕ). encryptWith w (replicate 16 0)) e) i }
 
 returns : tie.Need-returns
-returns c = parts _ _ _ (c .before .before .before .expand-key .ensures) (c .encrypt-block .ensures)
+returns c = parts _ _ _ (c .before .before .before .expand-into .ensures) (c .store .ensures ∙ c .before .zero-block .ensures)
 
 pub prepare-spec : {M : Type 1} → statement M
-prepare-spec = tie.close (tie.spec expand-key-requires encrypt-block-requires returns)
+prepare-spec = tie.close (tie.spec expand-into-requires zero-block-requires store-requires returns)
