@@ -1,12 +1,12 @@
 -- The order of byte strings is a strict total order.
 use mathlib.Core.Path.{_≡_, refl, sym, ap, _∙_}
 use mathlib.Core.Logic.{_≢_, _⊎_, inl, inr, ⊎-elim}
-use mathlib.Core.Bool.{true, false, or-false}
+use mathlib.Core.Bool.{Bool, true, false, _&&_, _||_, or-false}
 use mathlib.Core.List.{List, [], _∷_}
-use Prim.Native.Nat.{ℕ, zero, suc, _<_, min}
+use Prim.Native.Nat.{ℕ, zero, suc, _+_, _*_, _≤_, _<_, min}
 use native.Mathlib.Nat.{not-suc-le-zero, le-of-suc-le-suc}
 use native.Mathlib.Omega.{arith}
-use borrow.Author.Tests.{eqb-true, eq-eqb, ne-eqb, ltb-true, ltb-false, lt-ltb, le-ltb}
+use borrow.Author.Tests.{eqb-true, eqb-false, eq-eqb, ne-eqb, ltb-true, ltb-false, lt-ltb, le-ltb}
 use lib.Dec.{eqb, ltb}
 use lib.ListN.{length, getD, take, drop, drop-of-length-le}
 use lib.Seq.{drop-cons}
@@ -77,6 +77,61 @@ module _ (a b : List ℕ) (i : ℕ) where
   pub bytes-left : i < length a → i < length b → getD a i 0 ≡ getD b i 0 → precedes (drop (suc i) a) (drop (suc i) b) ≡ precedes (drop i a) (drop i b)
   bytes-left h k e =
       rw (drop-cons a i 0 h, drop-cons b i 0 k) (sym (equal-first (getD a i 0) (getD b i 0) (drop (suc i) a) (drop (suc i) b) e))
+
+-- ---- the same, some bytes at a time, as one number, the first byte highest
+
+abbrev beAt : ℕ → List ℕ → ℕ → ℕ
+beAt zero l i = 0
+beAt (suc k) l i = beAt k l i * 256 + getD l (i + k) 0
+
+abbrev be32 : List ℕ → ℕ → ℕ
+be32 l i = getD l i 0 * 0x1000000 + getD l (i + 1) 0 * 0x10000 + getD l (i + 2) 0 * 0x100 + getD l (i + 3) 0
+
+be-four : (l : List ℕ) (i : ℕ) → be32 l i ≡ beAt 4 l i
+be-four l i = let e : i + 0 ≡ i = omega arith in rw e (omega arith)
+
+-- one more byte: it decides where the numbers before it are equal
+digit-more : (u v x y p q : ℕ) (rest : Bool) → x < 256 → y < 256 → p ≡ u * 256 + x → q ≡ v * 256 + y
+    → (ltb u v || (eqb u v && (ltb x y || (eqb x y && rest)))) ≡ (ltb p q || (eqb p q && rest))
+digit-more u v x y p q rest hx hy ep eq = split (ltb u v)
+    (λ e. let h = ltb-true u v e in rw (e, lt-ltb p q (omega arith)))
+    (λ e. split (eqb u v)
+    (λ f.
+    let h = eqb-true u v f in
+    split (ltb x y)
+    (λ l. let k = ltb-true x y l in rw (e, f, l, lt-ltb p q (omega arith)))
+    (λ l.
+    let k = ltb-false x y l in
+    split (eqb x y)
+    (λ g. let z = eqb-true x y g in rw (e, f, l, g, le-ltb p q (omega arith), eq-eqb p q (omega arith)))
+    (λ g. let z = eqb-false x y g in rw (e, f, l, g, le-ltb p q (omega arith), ne-eqb p q (λ n. z (omega arith))))))
+    (λ f.
+    let h = ltb-false u v e in
+    let z = eqb-false u v f in
+    rw (e, f, le-ltb p q (omega (arith, z)), ne-eqb p q (λ n. z (omega arith)))))
+
+module _ (a b : List ℕ) (i : ℕ) (fa : (j : ℕ) → getD a j 0 < 256) (fb : (j : ℕ) → getD b j 0 < 256) where
+  number-left : (k : ℕ) → i + k ≤ length a → i + k ≤ length b
+      → precedes (drop i a) (drop i b)
+      ≡ (ltb (beAt k a i) (beAt k b i) || (eqb (beAt k a i) (beAt k b i) && precedes (drop (i + k) a) (drop (i + k) b)))
+  number-left zero ha hb = let e : i + 0 ≡ i = omega arith in rw e
+  number-left (suc k) ha hb =
+      let e : i + suc k ≡ suc (i + k) = omega arith in
+      let rest = precedes (drop (suc (i + k)) a) (drop (suc (i + k)) b) in
+      number-left k (omega arith) (omega arith)
+      ∙ rw (e, drop-cons a (i + k) 0 (omega arith), drop-cons b (i + k) 0 (omega arith))
+      (digit-more (beAt k a i) (beAt k b i) (getD a (i + k) 0) (getD b (i + k) 0) _ _ rest (fa (i + k)) (fb (i + k)) refl refl)
+
+  -- four of each, as the code has their numbers
+  module _ (x y : ℕ) (ha : i + 4 ≤ length a) (hb : i + 4 ≤ length b) (ex : x ≡ be32 a i) (ey : y ≡ be32 b i) where
+    four-left : precedes (drop i a) (drop i b) ≡ (ltb x y || (eqb x y && precedes (drop (i + 4) a) (drop (i + 4) b)))
+    four-left = let e = ex ∙ be-four a i in let f = ey ∙ be-four b i in rw (e, f) (number-left 4 ha hb)
+
+    pub four-differ : x ≢ y → precedes (drop i a) (drop i b) ≡ ltb x y
+    four-differ n = four-left ∙ rw (ne-eqb x y n) (or-false (ltb x y))
+
+    pub four-same : x ≡ y → precedes (drop (i + 4) a) (drop (i + 4) b) ≡ precedes (drop i a) (drop i b)
+    four-same e = sym (four-left ∙ rw (le-ltb x y (omega arith), eq-eqb x y e))
 
 -- ---- the order, byte by byte
 

@@ -1,12 +1,11 @@
 -- `buffers::compare::precedes`. The invariant: what is left of both decides.
 use mathlib.Core.Path.{_≡_, refl, sym, _∙_}
 use Prim.Native.Nat.{_-_, _≤_, min}
-use native.Mathlib.Numerals.{add-one}
 use native.Mathlib.Omega.{arith}
 use lib.ListN.{length, drop}
 use borrow.Author.Needs.{needs}
 use Rattle.buffers.specs.Compare.{precedes}
-use Rattle.buffers.proofs.Order.{ends-left, bytes-left, byte-left}
+use Rattle.buffers.proofs.Order.{four-differ, four-same}
 use Rattle.buffers.proofs.compare.precedes.Statement.{statement}
 use Rattle.buffers.proofs.compare.precedes.Tie as tie
 
@@ -22,23 +21,26 @@ shorter-requires c κs = search needs
 loop-holds : tie.Need-loop-holds Inv-loop μ-loop
 loop-holds c = (c .shorter .ensures, omega arith, refl)
 
-shared-slice-read-if1 : tie.Need-shared-slice-read-if1 Inv-loop μ-loop
-shared-slice-read-if1 c = search needs
+add-loop : tie.Need-add-loop Inv-loop μ-loop
+add-loop c = search needs
 
-shared-slice-read-if1-2 : tie.Need-shared-slice-read-if1-2 Inv-loop μ-loop
-shared-slice-read-if1-2 c = search needs
+be32-requires : tie.Need-be32-requires Inv-loop μ-loop
+be32-requires c κs = search needs
 
-shared-slice-read-result : tie.Need-shared-slice-read-result Inv-loop μ-loop
-shared-slice-read-result c = search needs
-
-shared-slice-read-result-2 : tie.Need-shared-slice-read-result-2 Inv-loop μ-loop
-shared-slice-read-result-2 c = search needs
+be32-requires-2 : tie.Need-be32-requires-2 Inv-loop μ-loop
+be32-requires-2 c κs = search needs
 
 returns : tie.Need-returns Inv-loop μ-loop
 returns c =
-    let l = c .before .before .before .before .before .before .loop in
-    let args = c .before .before .before .before .before .before .before .before .before .before .args in
-    sym (byte-left (args .a .now) (args .b .now) (l .i) (omega arith) (omega arith) (c .before .before .if1 .taken)) ∙ l .inv .2
+    let l = c .before .before .before .before .loop in
+    let known = c .before .before .before .before .before .before in
+    let args = known .before .before .args in
+    let fa = known .before .shared-slice-known .given in
+    let fb = known .shared-slice-known2 .given in
+    let x = c .before .before .be32 in
+    let y = c .before .be322 in
+    sym (four-differ (args .a .now) (args .b .now) (l .i) (λ j. fa j .fits) (λ j. fb j .fits) (x .result) (y .result) (omega arith) (omega arith)
+    (x .ensures) (y .ensures) (c .if1 .taken)) ∙ l .inv .2
 
 add-i : tie.Need-add-i Inv-loop μ-loop
 add-i c = search needs
@@ -49,15 +51,21 @@ loop-less c = search needs
 loop-again : tie.Need-loop-again Inv-loop μ-loop
 loop-again c =
     let l = c .before .before .before .before .loop in
-    let args = c .before .before .before .before .before .before .before .before .args in
-    let same = bytes-left (args .a .now) (args .b .now) (l .i) (omega arith) (omega arith) (c .if1 .left) in
-    (l .inv .0, omega arith, rw add-one (same ∙ l .inv .2))
+    let known = c .before .before .before .before .before .before in
+    let args = known .before .before .args in
+    let fa = known .before .shared-slice-known .given in
+    let fb = known .shared-slice-known2 .given in
+    let x = c .before .before .be32 in
+    let y = c .before .be322 in
+    let same = four-same (args .a .now) (args .b .now) (l .i) (λ j. fa j .fits) (λ j. fb j .fits) (x .result) (y .result) (omega arith) (omega arith)
+    (x .ensures) (y .ensures) (c .if1 .left) in
+    (l .inv .0, omega arith, same ∙ l .inv .2)
+
+precedes-from-requires : tie.Need-precedes-from-requires Inv-loop μ-loop
+precedes-from-requires c κs = search needs
 
 returns-2 : tie.Need-returns-2 Inv-loop μ-loop
-returns-2 c =
-    let l = c .before .loop in
-    let args = c .before .before .before .before .before .args in
-    sym (ends-left (args .a .now) (args .b .now) (l .i) (omega (arith, l .inv .0))) ∙ l .inv .2
+returns-2 c = c .precedes-from .ensures ∙ c .before .before .loop .inv .2
 
 pub precedes-spec : {M : Type 1} → statement M
 precedes-spec =
@@ -67,12 +75,12 @@ precedes-spec =
     μ-loop
     shorter-requires
     loop-holds
-    shared-slice-read-if1
-    shared-slice-read-if1-2
-    shared-slice-read-result
-    shared-slice-read-result-2
+    add-loop
+    be32-requires
+    be32-requires-2
     returns
     add-i
     loop-less
     loop-again
+    precedes-from-requires
     returns-2)
