@@ -1,29 +1,31 @@
 -- Slots in order: tested from neighbour to neighbour, and found by binary search.
 use mathlib.Core.Path.{_≡_, refl, sym, ap, _∙_}
-use mathlib.Core.Bool.{Bool, true, false, _&&_, and-assoc}
-use mathlib.Core.List.{List, [], _∷_}
+use mathlib.Core.Bool.{Bool, true, false, _&&_, and-assoc, and-false}
+use mathlib.Core.List.{List, [], _∷_, _++_}
 use mathlib.Core.Option.{Option, some}
-use Prim.Native.Nat.{ℕ, zero, suc, _-_, _≤_, _<_}
+use Prim.Native.Nat.{ℕ, suc, _+_, _-_, _*_, _≤_, _<_}
 use native.Mathlib.Omega.{arith}
 use borrow.Author.Tests.{ltb-true, ltb-false, lt-ltb, le-ltb}
-use lib.Dec.{ltb}
-use lib.ListN.{length, getD, drop, drop-of-length-le}
-use lib.Seq.{drop-cons}
-use Rattle.buffers.specs.Bytes.{every}
+use lib.Dec.{eqb, ltb}
+use lib.ListN.{length, getD, take, drop, drop-of-length-le}
+use lib.Seq.{drop-cons, getD-take, getD-drop}
+use Rattle.buffers.specs.Bytes.{every, allZero}
 use Rattle.spec.specs.Name.{Name}
-use Rattle.spec.specs.Slots.{firstIndex, inOrder, sortedBy}
-use Rattle.spec.specs.Area.{Format, slotFree, slotValid, slotHolder, slotCount, slots, sized, intact, hasSpace}
-use Rattle.buffers.proofs.Split.{split, clash}
-use Rattle.spec.proofs.Chunks.{slots-length}
+use Rattle.spec.specs.Slots.{joinSlots, firstIndex, inOrder, sortedBy}
+use Rattle.spec.specs.Area.{Format, stateByte, slotFree, slotUsed, slotValid, slotHolder, slotCount, slots, sized, intact, hasSpace}
+use Rattle.buffers.proofs.Split.{split, clash, both}
+use Rattle.buffers.proofs.Lists.{rest-part}
+use Rattle.spec.proofs.Chunks.{slots-length, slot-at}
 use Rattle.spec.proofs.First.{any-first, first-lowest}
-use Rattle.spec.proofs.Area.{sized-parts, intact-sorted, free-holder, used-holder}
+use Rattle.spec.proofs.Area.{sized-parts, sized-length, intact-sorted, free-holder, used-holder}
 use Rattle.spec.proofs.Sorted.{front, front-trans, free-behind}
-use Rattle.spec.proofs.SortedIndex.{notBefore, fails-before, place-behind}
+use Rattle.spec.proofs.SortedIndex.{notBefore, fails-before, place-behind, join-drop}
 use Rattle.slots.specs.Found.{slotFor, slotAt, mayFollow}
+use Rattle.slots.proofs.SlotLaws.{valid-blank, taken-holder}
 
-and-false : (a : Bool) → (a && false) ≡ false
-and-false true = refl
-and-false false = refl
+every-append : {A : Type 0} (t : A → Bool) (a b : List A) → every t (a ++ b) ≡ (every t a && every t b)
+every-append t [] b = refl
+every-append t (x ∷ a) b = rw (every-append t a b) (sym (and-assoc (t x) (every t a) (every t b)))
 
 -- ---- neighbours
 
@@ -51,6 +53,26 @@ module _ {S : Type 0} (at : S → Option Name) (P : S → Bool) where
   all-chain x ss =
       and-assoc (P x) (every P ss) (front at (at x) ss && sortedBy at ss) ∙ ap (λ (b : Bool). P x && b) (chain-sorted x ss)
 
+-- behind a free slot all are free
+module _ (F : Format) where
+  free-chain : (x : List ℕ) (ss : List (List ℕ)) → slotFree x ≡ true → chain (slotHolder F) (slotValid F) x ss ≡ every slotFree ss
+  unfolding slotValid
+  free-chain x [] f = refl
+  free-chain x (y ∷ ss) f = split (slotFree y)
+      (λ e. rw (e, free-holder F y e) (free-chain y ss e))
+      (λ e. rw (e, free-holder F x f, taken-holder F y e, and-false (slotUsed F y)))
+
+  -- a slot with no state is free, or not well shaped
+  blank-chain : (x y : List ℕ) (ss : List (List ℕ)) → stateByte y ≡ 0 → chain (slotHolder F) (slotValid F) x (y ∷ ss) ≡ every slotFree (y ∷ ss)
+  blank-chain x y ss b = split (slotFree y)
+      (λ e. rw (valid-blank F y b, e, free-holder F y e) (free-chain y ss e))
+      (λ e. rw (valid-blank F y b, e))
+
+all-free : (ss : List (List ℕ)) → every slotFree ss ≡ allZero (joinSlots ss)
+unfolding slotFree
+all-free [] = refl
+all-free (s ∷ ss) = rw (all-free ss) (sym (every-append (λ b. eqb b 0) s (joinSlots ss)))
+
 module _ (F : Format) (l : List ℕ) where
   -- the slots behind slot i, up to the end
   abbrev pub chained : ℕ → Bool
@@ -65,10 +87,32 @@ module _ (F : Format) (l : List ℕ) where
       ap (λ (ss : List (List ℕ)). every (slotValid F) ss && sortedBy (slotHolder F) ss) e
       ∙ all-chain (slotHolder F) (slotValid F) (slotAt F l 0) (drop 1 (slots F l))
 
-  -- one turn, at slot i
-  pub chain-turn : (i : ℕ) → 0 < i → i < slotCount F l → chained (i - 1) ≡ (mayFollow F (slotAt F l (i - 1)) (slotAt F l i) && chained i)
-  chain-turn zero z h = absurd (omega arith)
-  chain-turn (suc i) z h = let e : suc i - 1 ≡ i = omega arith in rw (e, drop-cons (slots F l) (suc i) [] (rw (slots-length F l) h))
+  -- one turn, at slot i: what the code has found of it
+  module _ (i : ℕ) (z : 0 < i) (h : i < slotCount F l) (r : Bool) (e : r ≡ mayFollow F (slotAt F l (i - 1)) (slotAt F l i)) where
+    pub chain-turn : chained (i - 1) ≡ (r && chained i)
+    chain-turn =
+        let n : suc (i - 1) ≡ i = omega arith in
+        rw (e, n, drop-cons (slots F l) i [] (rw (slots-length F l) h))
+
+    pub turn-well : r ≡ true → slotValid F (slotAt F l i) ≡ true
+    turn-well t = both (slotValid F (slotAt F l i)) (inOrder (slotHolder F (slotAt F l (i - 1))) (slotHolder F (slotAt F l i))) (sym e ∙ t) .0
+
+  -- the same where the slot has no state: what is left, as the code has it, is zero
+  module _ (s : sized F l ≡ true) (i : ℕ) (z : 0 < i) (h : i < slotCount F l) (w : ℕ) (e : w ≡ F .slotSize) (p : 0 < w) where
+    state-at : stateByte (slotAt F l i) ≡ getD l (i * w) 0
+    state-at =
+        let o : i * w + 0 ≡ i * w = omega arith in
+        rw (slot-at F l i h, ← e, getD-take w (drop (i * w) l) 0 0 p, getD-drop (i * w) l 0 0, o)
+
+    pub chain-blank : getD l (i * w) 0 ≡ 0 → chained (i - 1) ≡ allZero (take (length l - i * w) (drop (i * w) l))
+    chain-blank b =
+        let left = drop-cons (slots F l) i [] (rw (slots-length F l) h) in
+        let joined : joinSlots (drop i (slots F l)) ≡ drop (i * w) l = rw e (join-drop (F .slotSize) (slotCount F l) i l (sized-length F l s) (omega arith)) in
+        chain-turn i z h (mayFollow F (slotAt F l (i - 1)) (slotAt F l i)) refl
+        ∙ blank-chain F (slotAt F l (i - 1)) (slotAt F l i) (drop (suc i) (slots F l)) (state-at ∙ b)
+        ∙ ap (every slotFree) (sym left)
+        ∙ all-free (drop i (slots F l))
+        ∙ rw (rest-part l (i * w), joined)
 
   pub chain-end : (i : ℕ) → slotCount F l ≤ suc i → chained i ≡ true
   chain-end i h = rw (drop-of-length-le (slots F l) {i = suc i} (rw (slots-length F l) h))

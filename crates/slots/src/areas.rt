@@ -1,6 +1,7 @@
 // An area of slots, tested and edited where it is lent.
 use crate::AreaKind;
 use crate::slot;
+use buffers::compare;
 use buffers::parts;
 ghost use mathlib.Core.Path.{_≡_};
 ghost use mathlib.Core.Bool.{true};
@@ -58,17 +59,23 @@ fn slot_follows(kind: AreaKind, area: &[u8], i: usize) -> bool
     slot::slots_in_order(kind, slot_at(kind, area, i - 1), s)
 }
 
-// 01: no "damage", and 02, No. 7: "any other order is damage". Neighbours in order are all in order.
+// 01: no "damage", and 02, No. 7: "any other order is damage". Neighbours in order are all in order. Behind a free slot every slot is free: from the first
+// one on, the area is zero, which one pass tests.
 pub fn area_intact(kind: AreaKind, area: &[u8]) -> bool
     requires { ⌜ sized (formatOf kind) (now area) ≡ true ⌝ }
     ensures { λ r. ⌜ r ≡ intact (formatOf kind) (now (area .entry)) ⌝ }
 {
     let k = slot_count(kind, area);
+    let w = slot::slot_size(kind);
     if !slot::slot_valid(kind, slot_at(kind, area, 0)) {
         return false;
     }
     let mut i = 1;
     while i < k {
+        let at = i * w;
+        if area[at] == 0 {
+            return compare::all_zero(&area[at..]);
+        }
         if !slot_follows(kind, area, i) {
             return false;
         }
