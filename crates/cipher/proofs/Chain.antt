@@ -38,7 +38,7 @@ xor-short [] b = omega arith
 xor-short (x ∷ a) [] = omega arith
 xor-short (x ∷ a) (y ∷ b) = omega (arith, xor-short a b)
 
-zero-xor : (n : ℕ) (b : List ℕ) → length b ≤ n → xorBytes (replicate n 0) b ≡ b
+pub zero-xor : (n : ℕ) (b : List ℕ) → length b ≤ n → xorBytes (replicate n 0) b ≡ b
 unfolding xorBytes zipWith
 zero-xor zero [] h = refl
 zero-xor zero (x ∷ b) h = absurd (not-suc-le-zero h)

@@ -18,6 +18,7 @@ pub mod Feeding
 pub mod Chain
 pub mod Salt
 pub mod Message
+pub mod Closing
 pub mod Prepared
 pub mod Stream
 pub mod Product

@@ -8,10 +8,10 @@ use lib.Seq.{take-at, drop-append-add, set-append-seam}
 use Rattle.buffers.specs.Bytes.{putAt}
 use Rattle.cipher.specs.Kdf.{labelled}
 
-abbrev zeros : ℕ → List ℕ
+abbrev pub zeros : ℕ → List ℕ
 zeros k = replicate k 0
 
-drop-zeros : (k j : ℕ) → drop k (zeros (k + j)) ≡ zeros j
+pub drop-zeros : (k j : ℕ) → drop k (zeros (k + j)) ≡ zeros j
 drop-zeros zero j = let e : 0 + j ≡ j = omega arith in rw e
 drop-zeros (suc k) j = let e : suc k + j ≡ suc (k + j) = omega arith in rw e (drop-zeros k j)
 

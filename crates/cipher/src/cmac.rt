@@ -3,6 +3,7 @@ use crate::aes;
 use crate::aes::Columns;
 use crate::num;
 use crate::tables;
+use buffers::parts;
 ghost use mathlib.Core.Path.{_≡_};
 ghost use mathlib.Core.List.{_++_};
 ghost use Prim.Native.Nat.{_+_, _-_, _*_, _/_, _%_, _≤_, _<_};
@@ -109,6 +110,22 @@ fn close_block(block: [u8; 16], pending: usize, zero: Columns) -> Columns
     aes::add(aes::load(&block), subkey1)
 }
 
+// The same of a block that nothing was added to: the last of a message, by itself.
+fn last_block(rest: &[u8], zero: Columns) -> Columns
+    requires { ⌜ length (now rest) ≤ 16 ⌝ }
+    ensures { λ r. ⌜ blockOf (columnsState r) ≡ closedBlock (xorFrom (replicate 16 0) 0 (now (rest .entry))) (length (now (rest .entry))) (double (blockOf (columnsState zero))) (double (double (blockOf (columnsState zero)))) ⌝ }
+{
+    let subkey1 = doubled(zero);
+    let n = rest.len();
+    if n < 16 {
+        let mut padded = [0u8; 16];
+        parts::paste(&mut padded, 0, rest);
+        padded[n] = 0x80;
+        return aes::add(aes::load(&padded), doubled(subkey1));
+    }
+    aes::add(aes::load_at(rest, 0), subkey1)
+}
+
 // The block of zeros encrypted, from which the subkeys are made.
 pub(crate) fn zero_block(t: &[u32; 256], keys: &[u32; 44]) -> Columns
     requires { ⌜ now t ≡ mixTable ⌝ }
@@ -175,8 +192,7 @@ pub(crate) fn tag_of(t: &[u32; 256], keys: &[u32; 44], zero: Columns, message: &
     };
     let chained = chain_blocks(t, keys, start, &message[..end]);
     let rest = &message[end..];
-    let last = add_bytes([0; 16], 0, rest);
-    let x = aes::add(chained, close_block(last, rest.len(), zero));
+    let x = aes::add(chained, last_block(rest, zero));
     aes::store(aes::encrypt_words(t, keys, x.c0, x.c1, x.c2, x.c3))
 }
 

@@ -1,9 +1,9 @@
 -- `cipher::cmac::tag_of`: the chain, and the last block closed apart from it.
-use mathlib.Core.Path.{ap, ap₂, _∙_}
+use mathlib.Core.Path.{ap, _∙_}
 use mathlib.Core.List.{List}
 use Prim.Native.Nat.{ℕ}
 use native.Mathlib.Omega.{arith}
-use lib.ListN.{length, length-take, replicate}
+use lib.ListN.{length, length-take, length-drop, replicate}
 use borrow.Author.Needs.{needs}
 use Rattle.cipher.specs.Aes.{numberWord, wordBytes, blockOf}
 use Rattle.cipher.specs.Columns.{columnsState, wordsState}
@@ -32,11 +32,8 @@ part-rest-start c = search needs
 part-rest-end : tie.Need-part-rest-end
 part-rest-end c = search needs
 
-add-bytes-requires : tie.Need-add-bytes-requires
-add-bytes-requires c κs = search needs
-
-close-block-requires : tie.Need-close-block-requires
-close-block-requires c κs = search needs
+last-block-requires : tie.Need-last-block-requires
+last-block-requires c κs = simp (length-take, length-drop) (omega (arith, c .before .before .before .before-last .ensures))
 
 add-requires : tie.Need-add-requires
 add-requires c κs = search needs
@@ -53,8 +50,7 @@ returns c =
     let done = c .before in
     let sum = done .before in
     let closed = sum .before in
-    let added = closed .before in
-    let chained = added .before .before in
+    let chained = closed .before .before in
     let ended = chained .before .before in
     let start = ended .before .before in
     let ks = start .args .keys .now in
@@ -64,9 +60,7 @@ returns c =
     let z = blockOf (columnsState (start .args .zero)) in
     let whole = ap blockOf (sum .add .ensures) ∙ block-sum _ _ in
     let last =
-    closed .close-block .ensures
-    ∙ ap₂ (λ (b : List ℕ) (l : List ℕ). closedBlock b (length l) (double z) (double (double z)))
-    (added .add-bytes .ensures ∙ ap (xorFrom zeros 0) (to-end e m)) (to-end e m) in
+    closed .last-block .ensures ∙ ap (λ (l : List ℕ). closedBlock (xorFrom zeros 0 l) (length l) (double z) (double (double z))) (to-end e m) in
     c .store .ensures ∙ encrypted ks _ _ _ (done .encrypt-words .ensures) whole
     ∙ tag-shape ks m _ _ z e (ended .before-last .ensures) (start .pre .1) (chained .chain-blocks .ensures) last
 
@@ -80,8 +74,7 @@ tag-of-spec =
     sub-rest
     part-rest-start
     part-rest-end
-    add-bytes-requires
-    close-block-requires
+    last-block-requires
     add-requires
     encrypt-words-requires
     store-requires
