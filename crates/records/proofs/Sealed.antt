@@ -1,14 +1,17 @@
 -- The steps by which a record is made and opened. Assumes nothing.
 use mathlib.Core.Path.{_≡_, refl, sym, ap, ap₂, _∙_}
 use mathlib.Core.List.{List, _++_, append-assoc}
-use Prim.Native.Nat.{ℕ, _+_, _-_}
+use Prim.Native.Nat.{ℕ, _+_, _-_, _≤_}
 use native.Mathlib.Omega.{arith}
 use lib.ListN.{length, take, drop, length-append}
-use lib.Seq.{take-at, take-all}
+use lib.Seq.{take-at, take-all, take-take, length-take-le}
 use Rattle.buffers.specs.Bytes.{zeros, zeroFill, putAt}
-use Rattle.spec.specs.Record.{metadata, dataSizeOf, flagsOf, ivOf, storedDataOf, recordCmac, sealedIv, sealedData, sealedTag, sealRecord, plaintext}
+use Rattle.cipher.proofs.Theorems.{front}
+use Rattle.spec.specs.Record.{requireConfidentiality, metadata, dataSizeOf, flagsOf, ivOf, storedDataOf, encKey, crypt, recordCmac}
+use Rattle.spec.specs.Record.{sealedIv, sealedData, sealedTag, sealRecord, plaintext}
 use Rattle.spec.proofs.Record.{ValidRecord, valid-stored-length, sealedMeta-length, sealedData-length, sealedTag-length, sealRecord-length}
 use Rattle.records.specs.Parts.{cmacOver, tagOver}
+use Rattle.buffers.proofs.Split.{split}
 use Rattle.buffers.proofs.Lists.{put-next, fill}
 
 tag-over : (key name : List ℕ) (flags : ℕ) (meta stored : List ℕ) → tagOver key name flags (meta ++ stored) ≡ sealedTag key name flags meta stored
@@ -54,6 +57,11 @@ module _ (key name : List ℕ) (flags : ℕ) (iv value : List ℕ) (iv-sized : l
       ∙ put-next d (meta ++ stored) tag (n + 20) covered-length
       ∙ ap₂ (λ (l : List ℕ) (k : ℕ). l ++ drop k d) (append-assoc meta stored tag) end
 
+sealed-front : (key name : List ℕ) (flags : ℕ) (iv m : List ℕ) (n : ℕ)
+    → sealedData key name flags iv (take n m) ≡ take n (sealedData key name flags iv m)
+unfolding sealedData crypt
+sealed-front key name flags iv m n = split (requireConfidentiality flags) (λ e. rw e (front (encKey key name) iv m n)) (λ e. rw e)
+
 module _ (key name r : List ℕ) (valid : ValidRecord r) where
   abbrev shown : List ℕ
   shown = sealedData key name (flagsOf r) (ivOf r) (storedDataOf r)
@@ -68,14 +76,23 @@ module _ (key name r : List ℕ) (valid : ValidRecord r) where
   pub plaintext-length : length (plaintext key name r) ≡ dataSizeOf r
   plaintext-length = ap length opened ∙ shown-length
 
-  pub opened-filled : (size : ℕ) (x : List ℕ) → x ≡ plaintext key name r ++ drop (dataSizeOf r) (zeros size) → x ≡ zeroFill size (plaintext key name r)
-  opened-filled size x e = e ∙ fill size (dataSizeOf r) (plaintext key name r) plaintext-length
+  -- all of them, where there is room
+  pub opened-filled : (size : ℕ) (x : List ℕ) (n : ℕ) → n ≡ dataSizeOf r → x ≡ take n (plaintext key name r) ++ drop n (zeros size)
+      → x ≡ zeroFill size (plaintext key name r)
+  opened-filled size x n h e =
+      let all : take n (plaintext key name r) ≡ plaintext key name r = take-all n (plaintext key name r) (let l = plaintext-length in omega arith) in
+      e ∙ ap (λ (l : List ℕ). l ++ drop n (zeros size)) all ∙ fill size n (plaintext key name r) (plaintext-length ∙ sym h)
 
-  pub opened-steps : (d x i : List ℕ) (f : ℕ) → f ≡ flagsOf r → i ≡ ivOf r
-      → x ≡ putAt d 0 (sealedData key name f i (take (length r - 16 - 20) (drop 20 r)))
-      → x ≡ plaintext key name r ++ drop (dataSizeOf r) d
-  opened-steps d x i f ef ei ex =
-      let e : length r - 16 - 20 ≡ length r - 36 = omega arith in
-      let whole : sealedData key name f i (take (length r - 16 - 20) (drop 20 r)) ≡ plaintext key name r = rw (e, ef, ei) (sym opened) in
-      let end : 0 + length (plaintext key name r) ≡ dataSizeOf r = let h = plaintext-length in omega arith in
-      ex ∙ ap (putAt d 0) whole ∙ ap (λ (k : ℕ). plaintext key name r ++ drop k d) end
+  -- the front of the data as stored, put in place
+  pub opened-steps : (d x i : List ℕ) (f n : ℕ) → n ≤ dataSizeOf r → f ≡ flagsOf r → i ≡ ivOf r
+      → x ≡ putAt d 0 (sealedData key name f i (take (n + 20 - 20) (drop 20 r)))
+      → x ≡ take n (plaintext key name r) ++ drop n d
+  opened-steps d x i f n h ef ei ex =
+      let e : n + 20 - 20 ≡ n = omega arith in
+      let l = valid .record-length in
+      let part : take n (drop 20 r) ≡ take n (storedDataOf r) = sym (take-take n (length r - 36) (drop 20 r) (omega arith)) in
+      let front : sealedData key name f i (take (n + 20 - 20) (drop 20 r)) ≡ take n (plaintext key name r) =
+      rw (e, part, ef, ei, opened) (sealed-front key name (flagsOf r) (ivOf r) (storedDataOf r) n) in
+      let count = length-take-le n (plaintext key name r) (rw plaintext-length h) in
+      let end : 0 + length (take n (plaintext key name r)) ≡ n = omega arith in
+      ex ∙ ap (putAt d 0) front ∙ ap (λ (k : ℕ). take n (plaintext key name r) ++ drop k d) end

@@ -1,6 +1,7 @@
 // The flags of a record.
 ghost use mathlib.Core.Path.{_≡_};
 ghost use Rattle.spec.specs.Record.{writeOnce, requireConfidentiality, requireIntegrity, requireReplayProtection, validFlags};
+ghost use Rattle.records.specs.Parts.{needsKeys};
 
 pub fn write_once(flags: u32) -> bool
     ensures { λ r. ⌜ r ≡ writeOnce flags ⌝ }
@@ -18,6 +19,13 @@ pub fn require_integrity(flags: u32) -> bool
     ensures { λ r. ⌜ r ≡ requireIntegrity flags ⌝ }
 {
     flags / 4 % 2 == 1
+}
+
+// Keys are derived for a record with these flags.
+pub fn needs_keys(flags: u32) -> bool
+    ensures { λ r. ⌜ r ≡ needsKeys flags ⌝ }
+{
+    require_confidentiality(flags) || require_integrity(flags)
 }
 
 pub fn require_replay_protection(flags: u32) -> bool

@@ -4,13 +4,14 @@ use crate::mac;
 use crate::record;
 use buffers::numbers;
 use buffers::parts;
+use cipher::kdf::DeviceKey;
 ghost use mathlib.Core.Path.{_≡_};
 ghost use mathlib.Core.List.{_++_};
 ghost use Prim.Native.Nat.{_+_, _≤_};
 ghost use lib.ListN.{length, drop};
 ghost use Rattle.buffers.specs.Bytes.{zeroFill, putAt};
 ghost use Rattle.spec.specs.Record.{metadata, sealedIv, sealedData, sealRecord};
-ghost use Rattle.records.specs.Parts.{tagOver};
+ghost use Rattle.records.specs.Parts.{ReadyFor, tagOver};
 
 fn put_metadata(data_size: u32, flags: u32, iv: [u8; 8], dst: &mut [u8])
     requires { ⌜ 20 ≤ length (now dst) ⌝ }
@@ -36,7 +37,9 @@ fn sealed_iv(flags: u32, iv: [u8; 8]) -> [u8; 8]
 
 // Data copied, and encrypted or decrypted where the flags ask for confidentiality.
 fn copy_crypted(
-    device_key: [u8; 16],
+    mix: &[u32; 256],
+    sub: &[u8; 256],
+    device: DeviceKey,
     name: &[u8],
     flags: u32,
     iv: [u8; 8],
@@ -44,17 +47,20 @@ fn copy_crypted(
     dst: &mut [u8],
 )
     requires { ⌜ length (now src) ≡ length (now dst) ⌝ }
-    ensures { λ _. ⌜ now (dst .exit) ≡ sealedData «device_key» (now (name .entry)) flags iv (now (src .entry)) ⌝ }
+    requires { ⌜ ReadyFor flags (now mix) (now sub) device ⌝ }
+    ensures { λ _. ⌜ now (dst .exit) ≡ sealedData (device .key) (now (name .entry)) flags iv (now (src .entry)) ⌝ }
 {
     bytes::copy(src, dst);
     if flags::require_confidentiality(flags) {
-        let key = cipher::kdf::derive_encryption_key(device_key, name);
-        cipher::ctr::ctr_xor(key, iv, dst);
+        let key = cipher::kdf::derive_encryption_key(mix, sub, device, name);
+        cipher::ctr::crypt(mix, sub, key, iv, dst);
     }
 }
 
 pub(crate) fn put_crypted(
-    device_key: [u8; 16],
+    mix: &[u32; 256],
+    sub: &[u8; 256],
+    device: DeviceKey,
     name: &[u8],
     flags: u32,
     iv: [u8; 8],
@@ -63,18 +69,27 @@ pub(crate) fn put_crypted(
     at: usize,
 )
     requires { ⌜ at + length (now src) ≤ length (now dst) ⌝ }
-    ensures { λ _. ⌜ now (dst .exit) ≡ putAt (now (dst .entry)) at (sealedData «device_key» (now (name .entry)) flags iv (now (src .entry))) ⌝ }
+    requires { ⌜ ReadyFor flags (now mix) (now sub) device ⌝ }
+    ensures { λ _. ⌜ now (dst .exit) ≡ putAt (now (dst .entry)) at (sealedData (device .key) (now (name .entry)) flags iv (now (src .entry))) ⌝ }
 {
     let end = at + src.len();
-    copy_crypted(device_key, name, flags, iv, src, &mut dst[at..end]);
+    copy_crypted(mix, sub, device, name, flags, iv, src, &mut dst[at..end]);
 }
 
 // Without integrity the CMAC is zero.
-fn sealed_tag(device_key: [u8; 16], name: &[u8], flags: u32, covered: &[u8]) -> [u8; 16]
-    ensures { λ r. ⌜ r ≡ tagOver «device_key» (now (name .entry)) flags (now (covered .entry)) ⌝ }
+fn sealed_tag(
+    mix: &[u32; 256],
+    sub: &[u8; 256],
+    device: DeviceKey,
+    name: &[u8],
+    flags: u32,
+    covered: &[u8],
+) -> [u8; 16]
+    requires { ⌜ ReadyFor flags (now mix) (now sub) device ⌝ }
+    ensures { λ r. ⌜ r ≡ tagOver (device .key) (now (name .entry)) flags (now (covered .entry)) ⌝ }
 {
     if flags::require_integrity(flags) {
-        mac::record_cmac(device_key, name, covered)
+        mac::record_cmac(mix, sub, device, name, covered)
     } else {
         [0; 16]
     }
@@ -82,7 +97,9 @@ fn sealed_tag(device_key: [u8; 16], name: &[u8], flags: u32, covered: &[u8]) -> 
 
 // A record at the front of a buffer.
 fn seal_into(
-    device_key: [u8; 16],
+    mix: &[u32; 256],
+    sub: &[u8; 256],
+    device: DeviceKey,
     name: &[u8],
     flags: u32,
     iv: [u8; 8],
@@ -91,28 +108,32 @@ fn seal_into(
 )
     requires { ⌜ length (now value) + 36 ≤ length (now «record_buf») ⌝ }
     requires { ⌜ length (now «record_buf») ≤ 516 ⌝ }
-    ensures { λ _. ⌜ now («record_buf» .exit) ≡ sealRecord «device_key» (now (name .entry)) flags iv (now (value .entry)) ++ drop (length (now (value .entry)) + 36) (now («record_buf» .entry)) ⌝ }
+    requires { ⌜ ReadyFor flags (now mix) (now sub) device ⌝ }
+    ensures { λ _. ⌜ now («record_buf» .exit) ≡ sealRecord (device .key) (now (name .entry)) flags iv (now (value .entry)) ++ drop (length (now (value .entry)) + 36) (now («record_buf» .entry)) ⌝ }
 {
     let n = value.len();
     let covered = n + 20;
     put_metadata(n as u32, flags, sealed_iv(flags, iv), record_buf);
-    put_crypted(device_key, name, flags, iv, value, record_buf, 20);
-    let tag = sealed_tag(device_key, name, flags, &record_buf[..covered]);
+    put_crypted(mix, sub, device, name, flags, iv, value, record_buf, 20);
+    let tag = sealed_tag(mix, sub, device, name, flags, &record_buf[..covered]);
     parts::paste(record_buf, covered, &tag);
 }
 
 // 01: the "working record", which starts as all zeros.
 pub fn seal_record(
-    device_key: [u8; 16],
+    mix: &[u32; 256],
+    sub: &[u8; 256],
+    device: DeviceKey,
     name: &[u8],
     flags: u32,
     iv: [u8; 8],
     value: &[u8],
 ) -> [u8; 516]
     requires { ⌜ length (now value) ≤ 480 ⌝ }
-    ensures { λ r. ⌜ r ≡ zeroFill 516 (sealRecord «device_key» (now (name .entry)) flags iv (now (value .entry))) ⌝ }
+    requires { ⌜ ReadyFor flags (now mix) (now sub) device ⌝ }
+    ensures { λ r. ⌜ r ≡ zeroFill 516 (sealRecord (device .key) (now (name .entry)) flags iv (now (value .entry))) ⌝ }
 {
     let mut record_buf = [0u8; 516];
-    seal_into(device_key, name, flags, iv, value, &mut record_buf);
+    seal_into(mix, sub, device, name, flags, iv, value, &mut record_buf);
     record_buf
 }

@@ -14,7 +14,7 @@ use Rattle.records.proofs.mac.mac_difference.Tie as tie
 sub-end : tie.Need-sub-end
 sub-end c =
     let start = c .before .before in
-    let valid = valid-record (start .args .r .now) (start .pre) in
+    let valid = valid-record (start .args .r .now) (start .pre .0) in
     omega arith
 
 slice-aggregate-record-cmac : tie.Need-slice-aggregate-record-cmac
@@ -38,7 +38,7 @@ returns c =
     let start = c .before .before .before .before .before .before in
     let args = start .args in
     let r = args .r .now in
-    let cmac = record-cmac .ensures ∙ covered-cmac (args .device-key) (args .name .now) r (valid-record r (start .pre)) in
+    let cmac = record-cmac .ensures ∙ covered-cmac (args .device .key) (args .name .now) r (valid-record r (start .pre .0)) in
     c .tag-difference .ensures ∙ ap₂ diffAccumulate cmac (record-tag .ensures)
 
 pub mac-difference-spec : {M : Type 1} → statement M

@@ -12,8 +12,8 @@ use Rattle.records.proofs.mac.record_cmac.Tie as tie
 derive-authentication-key-requires : tie.Need-derive-authentication-key-requires
 derive-authentication-key-requires c κs = search needs
 
-cmac-tag-parts-requires : tie.Need-cmac-tag-parts-requires
-cmac-tag-parts-requires c κs = search needs
+tag-parts-requires : tie.Need-tag-parts-requires
+tag-parts-requires c κs = search needs
 
 returns : tie.Need-returns
 unfolding cmacOver authKey
@@ -21,8 +21,8 @@ returns c =
     let derive-authentication-key = c .before .derive-authentication-key in
     let args = c .before .before .before .before .args in
     let tag : List ℕ → List ℕ = λ k. cmac k (args .name .now ++ args .covered .now) in
-    c .cmac-tag-parts .ensures ∙ ap tag (derive-authentication-key .ensures)
+    c .tag-parts .ensures ∙ ap tag (derive-authentication-key .ensures)
 
 pub record-cmac-spec : {M : Type 1} → statement M
 record-cmac-spec =
-    tie.close (tie.spec derive-authentication-key-requires cmac-tag-parts-requires returns)
+    tie.close (tie.spec derive-authentication-key-requires tag-parts-requires returns)

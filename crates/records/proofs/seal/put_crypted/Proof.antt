@@ -30,8 +30,8 @@ returns c =
     let copy-crypted = c .before .before .copy-crypted in
     let args = c .before .before .before .before .before .before .before .args in
     let src = args .src .now in
-    let crypted = sealedData (args .device-key) (args .name .now) (args .flags) (args .iv) src in
-    let whole = sealedData-length (args .device-key) (args .name .now) (args .flags) (args .iv) src in
+    let crypted = sealedData (args .device .key) (args .name .now) (args .flags) (args .iv) src in
+    let whole = sealedData-length (args .device .key) (args .name .now) (args .flags) (args .iv) src in
     part-back (args .dst .now) _ crypted (args .at) (length src) (copy-crypted .ensures) whole
 
 pub put-crypted-spec : {M : Type 1} → statement M

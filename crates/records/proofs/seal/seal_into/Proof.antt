@@ -51,8 +51,8 @@ returns c =
     let at-iv = at-metadata .before .before in
     let start = at-iv .before .before .before .before in
     let args = start .args in
-    let iv-sized = good-length (eInt w8) 8 (args .iv) _ (start .good .1 .1 .1 .0) in
-    sealed-steps (args .device-key) (args .name .now) (args .flags) (args .iv) (args .value .now) iv-sized (args .record-buf .now) _ _ _ _ _
+    let iv-sized = good-length (eInt w8) 8 (args .iv) _ (start .good .1 .1 .1 .1 .1 .0) in
+    sealed-steps (args .device .key) (args .name .now) (args .flags) (args .iv) (args .value .now) iv-sized (args .record-buf .now) _ _ _ _ _
     (at-iv .sealed-iv .ensures) (at-metadata .put-metadata .ensures) (at-data .put-crypted .ensures) (at-tag .sealed-tag .ensures)
     (at-paste .paste .ensures)
 

@@ -17,8 +17,8 @@ returns c =
     let seal-into = c .before .seal-into in
     let start = c .before .before .before .before .before in
     let args = start .args in
-    let iv-sized = good-length (eInt w8) 8 (args .iv) _ (start .good .1 .1 .1 .0) in
-    sealed-filled (args .device-key) (args .name .now) (args .flags) (args .iv) (args .value .now) iv-sized 516 _ (seal-into .ensures)
+    let iv-sized = good-length (eInt w8) 8 (args .iv) _ (start .good .1 .1 .1 .1 .1 .0) in
+    sealed-filled (args .device .key) (args .name .now) (args .flags) (args .iv) (args .value .now) iv-sized 516 _ (seal-into .ensures)
 
 pub seal-record-spec : {M : Type 1} → statement M
 seal-record-spec = tie.close (tie.spec slice-aggregate-seal-into seal-into-requires returns)

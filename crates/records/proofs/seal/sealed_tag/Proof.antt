@@ -1,6 +1,8 @@
 -- `records::seal::sealed_tag`: the definition's two cases.
+use mathlib.Core.Path.{sym, _∙_}
 use borrow.Author.Needs.{needs}
 use Rattle.records.specs.Parts.{tagOver}
+use Rattle.records.proofs.Keys.{integrity-needs}
 use Rattle.records.proofs.seal.sealed_tag.Statement.{statement}
 use Rattle.records.proofs.seal.sealed_tag.Tie as tie
 
@@ -8,7 +10,10 @@ require-integrity-requires : tie.Need-require-integrity-requires
 require-integrity-requires c κs = search needs
 
 record-cmac-requires : tie.Need-record-cmac-requires
-record-cmac-requires c κs = search needs
+record-cmac-requires c κs =
+    let require-integrity = c .before .require-integrity in
+    let start = c .before .before .before .before in
+    start .pre (integrity-needs (start .args .flags) (sym (require-integrity .ensures) ∙ c .if1 .taken))
 
 returns : tie.Need-returns
 unfolding tagOver
