@@ -5,7 +5,10 @@
 --   given, bindingGiven              what a name has, as the code hands it on: held or not, and the bytes
 --   authentic, fresh                 the tests for 11, and for 12 of a record with flag 8, pass
 --   downgradeTests, offsetTests      the test for 12 of a record without it, and the one for 14
+--   keylessTests, keyedTests         a get's tests of what the name has: those that need no key, and those of a record that is well formed
+--   lookedUp                         the slots that a get finds for the name, with what it refuses without a key
 --   judged                           a call's status, and the slots that the name has, once the tests before them have passed
+--   gotOf                            what a get answers of a record that is well formed
 --   recordWritten, recordErased      card and chip, with the slots that were found written and taken out
 use mathlib.Core.Bool.{Bool, false, cond, not, _&&_}
 use mathlib.Core.List.{List, [], _∷_, _++_}
@@ -13,12 +16,13 @@ use mathlib.Core.Option.{Option, none, some}
 use Prim.Native.Nat.{ℕ}
 use lib.Dec.{leb}
 use lib.ListN.{length}
-use Rattle.spec.specs.Status.{Test, _when_, firstOf, onOk}
+use Rattle.buffers.specs.Bytes.{isSome}
+use Rattle.spec.specs.Status.{Test, _when_, firstOf, onOk, Answer, answerOf}
 use Rattle.spec.specs.Name.{Name, validName, validPrefix}
-use Rattle.spec.specs.Record.{requireIntegrity, requireReplayProtection, validFlags, maxDataSize, dataSizeOf, flagsOf, tagOf, macOk, sealRecord}
-use Rattle.spec.specs.Area.{kvFormat, rbpFormat}
+use Rattle.spec.specs.Record.{requireIntegrity, requireReplayProtection, validFlags, maxDataSize, dataSizeOf, flagsOf, tagOf, wellFormed, macOk, sealRecord}
+use Rattle.spec.specs.Area.{kvFormat, rbpFormat, lookup}
 use Rattle.spec.specs.Request.{Binding}
-use Rattle.spec.specs.Decisions.{keySized, ivSized, tagMatches, downgraded}
+use Rattle.spec.specs.Decisions.{keySized, ivSized, recordOf, tagMatches, downgraded, readCount, readOutput}
 use Rattle.spec.specs.Calls.{Areas, areas, areaLengths, areaDamage}
 use Rattle.spec.specs.Incremental.{finalizeTests}
 use Rattle.spec.specs.declared.incremental.IncSetHandle.{IncSetHandle}
@@ -75,6 +79,15 @@ downgradeTests flags tagHeld = (12 when downgraded requireReplayProtection flags
 abbrev pub offsetTests : ℕ → List ℕ → List Test
 offsetTests offset r = (14 when not (leb offset (dataSizeOf r))) ∷ []
 
+abbrev pub keylessTests : Bool → List ℕ → Bool → List Test
+keylessTests held r tagHeld = (12 when not held && tagHeld) ∷ (6 when not held) ∷ (8 when not (wellFormed r)) ∷ []
+
+abbrev pub keyedTests : List ℕ → Name → ℕ → List ℕ → Option (List ℕ) → List Test
+keyedTests key name offset r tag =
+    (11 when requireIntegrity (flagsOf r) && not (macOk key name r))
+    ∷ (12 when requireReplayProtection (flagsOf r) && not (tagMatches tag r))
+    ∷ (downgradeTests (flagsOf r) (isSome tag) ++ offsetTests offset r)
+
 -- ---- what is decided
 
 abbrev pub nowhere : Found
@@ -86,6 +99,20 @@ judged kv rbp name first tests = record {
   found = onOk (firstOf first) (foundIn kvFormat kv name) nowhere;
   entry = onOk (firstOf first) (foundIn rbpFormat rbp name) nowhere;
 }
+
+abbrev pub lookedUp : List ℕ → List ℕ → Name → Judged
+lookedUp kv rbp name =
+    let stored = lookup kvFormat kv name in
+    record {
+      status = firstOf (keylessTests (isSome stored) (recordOf stored) (isSome (lookup rbpFormat rbp name)));
+      found = foundIn kvFormat kv name;
+      entry = foundIn rbpFormat rbp name;
+    }
+
+-- what a get of a well formed record gives
+abbrev pub gotOf : List ℕ → Name → ℕ → List ℕ → Option (List ℕ) → List ℕ → Answer
+gotOf key name offset r tag output =
+    answerOf (firstOf (keyedTests key name offset r tag)) (readCount offset output r ∷ []) (readOutput key name offset output r) output
 
 -- ---- what is written
 

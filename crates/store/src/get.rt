@@ -6,6 +6,9 @@ use crate::judge;
 use crate::judge::Judged;
 use crate::status;
 use buffers::parts;
+use cipher::kdf;
+use cipher::kdf::DeviceKey;
+use cipher::tables;
 use records::flags as flag;
 use records::mac;
 use records::open;
@@ -18,11 +21,15 @@ ghost use mathlib.Core.Bool.{true};
 ghost use mathlib.Core.List.{[], _∷_};
 ghost use Prim.Native.Nat.{_≤_};
 ghost use lib.ListN.{length};
-ghost use Rattle.spec.specs.Record.{requireReplayProtection, wellFormed, dataSizeOf};
+ghost use Rattle.cipher.specs.Sbox.{sbox};
+ghost use Rattle.cipher.specs.Tables.{mixTable};
+ghost use Rattle.spec.specs.Record.{requireReplayProtection, wellFormed, dataSizeOf, flagsOf};
 ghost use Rattle.spec.specs.Status.{ok, firstOf};
 ghost use Rattle.spec.specs.Decisions.{getHeld, readCount, readOutput};
 ghost use Rattle.spec.specs.Calls.{bindingOf, storeGet, storeGetInfo};
-ghost use Rattle.store.specs.Parts.{getEarly, given, bindingGiven, authentic, fresh, offsetTests, judged};
+ghost use Rattle.spec.specs.Demand2.{Undamaged};
+ghost use Rattle.records.specs.Parts.{ReadyFor};
+ghost use Rattle.store.specs.Parts.{getEarly, given, authentic, fresh, offsetTests, keylessTests, keyedTests, judged, lookedUp, gotOf};
 
 // 1 to 3: what a get asks before it looks the name up.
 pub fn early_status(kv: &[u8], rbp: &[u8], device_key: &[u8], name: &[u8]) -> u32
@@ -39,14 +46,21 @@ pub fn early_status(kv: &[u8], rbp: &[u8], device_key: &[u8], name: &[u8]) -> u3
 }
 
 // The record's CMAC verifies, where integrity is flagged.
-fn is_authentic(device_key: [u8; 16], name: &[u8], stored: &[u8]) -> bool
+fn is_authentic(
+    mix: &[u32; 256],
+    sub: &[u8; 256],
+    device: DeviceKey,
+    name: &[u8],
+    stored: &[u8],
+) -> bool
     requires { ⌜ wellFormed (now stored) ≡ true ⌝ }
-    ensures { λ r. ⌜ r ≡ authentic «device_key» (now (name .entry)) (now (stored .entry)) ⌝ }
+    requires { ⌜ ReadyFor (flagsOf (now stored)) (now mix) (now sub) device ⌝ }
+    ensures { λ r. ⌜ r ≡ authentic (device .key) (now (name .entry)) (now (stored .entry)) ⌝ }
 {
     if !flag::require_integrity(record::record_flags(stored)) {
         return true;
     }
-    mac::mac_difference(device_key, name, stored) == 0
+    mac::mac_difference(mix, sub, device, name, stored) == 0
 }
 
 // The record is the one that the chip knows, where replay protection is flagged.
@@ -74,18 +88,9 @@ fn offset_status(stored: &[u8], offset: usize) -> u32
     status::OK
 }
 
-// 12 where the chip has a name that the card lacks, else 6; then 8, 11, 12 with replay protection and without, 14.
-pub fn held_status(
-    device_key: [u8; 16],
-    name: &[u8],
-    offset: usize,
-    held: bool,
-    stored: &[u8],
-    tag_held: bool,
-    tag: &[u8],
-) -> u32
-    requires { ⌜ («tag_held» ≡ true → length (now tag) ≡ 16) ⌝ }
-    ensures { λ r. ⌜ r ≡ firstOf (getHeld requireReplayProtection «device_key» (now (name .entry)) offset (bindingGiven held (now (stored .entry)) «tag_held» (now (tag .entry)))) ⌝ }
+// 12 where the chip has a name that the card lacks, else 6; then 8: what needs no key.
+pub fn keyless_status(held: bool, stored: &[u8], tag_held: bool) -> u32
+    ensures { λ r. ⌜ r ≡ firstOf (keylessTests held (now (stored .entry)) «tag_held») ⌝ }
 {
     if !held {
         if tag_held {
@@ -96,7 +101,25 @@ pub fn held_status(
     if !record::record_valid(stored) {
         return status::ERR_INVALID_RECORD;
     }
-    if !is_authentic(device_key, name, stored) {
+    status::OK
+}
+
+// 11, 12 with replay protection and without, 14.
+pub fn held_status(
+    mix: &[u32; 256],
+    sub: &[u8; 256],
+    device: DeviceKey,
+    name: &[u8],
+    offset: usize,
+    stored: &[u8],
+    tag_held: bool,
+    tag: &[u8],
+) -> u32
+    requires { ⌜ («tag_held» ≡ true → length (now tag) ≡ 16) × (wellFormed (now stored) ≡ true) ⌝ }
+    requires { ⌜ ReadyFor (flagsOf (now stored)) (now mix) (now sub) device ⌝ }
+    ensures { λ r. ⌜ r ≡ firstOf (keyedTests (device .key) (now (name .entry)) offset (now (stored .entry)) (given «tag_held» (now (tag .entry)))) ⌝ }
+{
+    if !is_authentic(mix, sub, device, name, stored) {
         return status::ERR_AUTHENTICATION;
     }
     if !is_fresh(tag_held, tag, stored) {
@@ -106,19 +129,50 @@ pub fn held_status(
     status::first(downgrade, offset_status(stored, offset))
 }
 
-// What a get decides once 1 to 3 have passed.
-pub fn judge_held(kv: &[u8], rbp: &[u8], device_key: &[u8], name: &[u8], offset: usize) -> Judged
-    requires { ⌜ firstOf (getEarly (now kv) (now rbp) (now «device_key») (now name)) ≡ ok ⌝ }
-    ensures { λ r. ⌜ r ≡ judged (now (kv .entry)) (now (rbp .entry)) (now (name .entry)) (getEarly (now (kv .entry)) (now (rbp .entry)) (now («device_key» .entry)) (now (name .entry))) (getHeld requireReplayProtection (now («device_key» .entry)) (now (name .entry)) offset (bindingOf (now (kv .entry)) (now (rbp .entry)) (now (name .entry)))) ⌝ }
+// Where the name's slots are, and what is refused before a key is needed.
+fn look_up(kv: &[u8], rbp: &[u8], name: &[u8]) -> Judged
+    requires { ⌜ Undamaged (now kv) (now rbp) ⌝ }
+    ensures { λ r. ⌜ r ≡ lookedUp (now (kv .entry)) (now (rbp .entry)) (now (name .entry)) ⌝ }
 {
     let found = areas::find(AreaKind::Kv, kv, name);
     let entry = areas::find(AreaKind::Rbp, rbp, name);
     let stored = areas::payload_at(AreaKind::Kv, kv, found);
-    let tag = areas::payload_at(AreaKind::Rbp, rbp, entry);
-    let key = parts::array16(device_key);
-    let status = held_status(key, name, offset, found.held, stored, entry.held, tag);
     Judged {
-        status,
+        status: keyless_status(found.held, stored, entry.held),
+        found,
+        entry,
+    }
+}
+
+// The device key, prepared where the record's flags ask for keys.
+fn key_for(mix: &[u32; 256], sub: &[u8; 256], device_key: &[u8], stored: &[u8]) -> DeviceKey
+    requires { ⌜ (now mix ≡ mixTable) × (now sub ≡ sbox) ⌝ }
+    requires { ⌜ (length (now «device_key») ≡ 16) × (wellFormed (now stored) ≡ true) ⌝ }
+    ensures { λ r. ⌜ r .key ≡ now («device_key» .entry) ⌝ }
+    ensures { λ r. ⌜ ReadyFor (flagsOf (now (stored .entry))) (now (mix .entry)) (now (sub .entry)) r ⌝ }
+{
+    let wanted = flag::needs_keys(record::record_flags(stored));
+    kdf::prepare_if(wanted, mix, sub, parts::array16(device_key))
+}
+
+// What a get decides once 1 to 3 have passed.
+fn judge_held(kv: &[u8], rbp: &[u8], device_key: &[u8], name: &[u8], offset: usize) -> Judged
+    requires { ⌜ firstOf (getEarly (now kv) (now rbp) (now «device_key») (now name)) ≡ ok ⌝ }
+    ensures { λ r. ⌜ r ≡ judged (now (kv .entry)) (now (rbp .entry)) (now (name .entry)) (getEarly (now (kv .entry)) (now (rbp .entry)) (now («device_key» .entry)) (now (name .entry))) (getHeld requireReplayProtection (now («device_key» .entry)) (now (name .entry)) offset (bindingOf (now (kv .entry)) (now (rbp .entry)) (now (name .entry)))) ⌝ }
+{
+    let seen = look_up(kv, rbp, name);
+    if seen.status != status::OK {
+        return seen;
+    }
+    let found = seen.found;
+    let entry = seen.entry;
+    let stored = areas::payload_at(AreaKind::Kv, kv, found);
+    let tag = areas::payload_at(AreaKind::Rbp, rbp, entry);
+    let mix = tables::mix_table();
+    let sub = tables::sbox_table();
+    let device = key_for(&mix, &sub, device_key, stored);
+    Judged {
+        status: held_status(&mix, &sub, device, name, offset, stored, entry.held, tag),
         found,
         entry,
     }
@@ -134,24 +188,54 @@ pub fn judge(kv: &[u8], rbp: &[u8], device_key: &[u8], name: &[u8], offset: usiz
     judge_held(kv, rbp, device_key, name, offset)
 }
 
-// The bytes of an accepted record, from an offset, to the front of the output.
+// The bytes of an accepted record, from an offset, to the front of the output. Those from its front need no array besides.
 pub fn read_record(
-    device_key: [u8; 16],
+    mix: &[u32; 256],
+    sub: &[u8; 256],
+    device: DeviceKey,
     name: &[u8],
     stored: &[u8],
     offset: usize,
     output: &mut [u8],
 ) -> usize
     requires { ⌜ (wellFormed (now stored) ≡ true) × (offset ≤ dataSizeOf (now stored)) ⌝ }
+    requires { ⌜ ReadyFor (flagsOf (now stored)) (now mix) (now sub) device ⌝ }
     ensures { λ n. ⌜ n ≡ readCount offset (now (output .entry)) (now (stored .entry)) ⌝ }
-    ensures { λ _. ⌜ now (output .exit) ≡ readOutput «device_key» (now (name .entry)) offset (now (output .entry)) (now (stored .entry)) ⌝ }
+    ensures { λ _. ⌜ now (output .exit) ≡ readOutput (device .key) (now (name .entry)) offset (now (output .entry)) (now (stored .entry)) ⌝ }
 {
-    let plain = open::open_record(device_key, name, stored);
+    if offset == 0 {
+        return open::open_front(mix, sub, device, name, stored, output);
+    }
+    let plain = open::open_record(mix, sub, device, name, stored);
     let end = record::record_data_size(stored) as usize;
     parts::copy_fitting(&plain[offset..end], output)
 }
 
-// A get once 1 to 3 have passed, for who reads many names of one card. Plaintext reaches the output only after all tests.
+// A get of a record that is well formed. Plaintext reaches the output only after all tests.
+fn get_record(
+    mix: &[u32; 256],
+    sub: &[u8; 256],
+    device: DeviceKey,
+    name: &[u8],
+    offset: usize,
+    stored: &[u8],
+    tag_held: bool,
+    tag: &[u8],
+    output: &mut [u8],
+) -> Got
+    requires { ⌜ («tag_held» ≡ true → length (now tag) ≡ 16) × (wellFormed (now stored) ≡ true) ⌝ }
+    requires { ⌜ ReadyFor (flagsOf (now stored)) (now mix) (now sub) device ⌝ }
+    ensures { λ r. ⌜ record { status = r .status; numbers = r .count ∷ []; output = now (output .exit) } ≡ gotOf (device .key) (now (name .entry)) offset (now (stored .entry)) (given «tag_held» (now (tag .entry))) (now (output .entry)) ⌝ }
+{
+    let status = held_status(mix, sub, device, name, offset, stored, tag_held, tag);
+    if status != status::OK {
+        return Got { status, count: 0 };
+    }
+    let count = read_record(mix, sub, device, name, stored, offset, output);
+    Got { status, count }
+}
+
+// A get once 1 to 3 have passed, for who reads many names of one card.
 pub fn get_held(
     kv: &[u8],
     rbp: &[u8],
@@ -163,19 +247,30 @@ pub fn get_held(
     requires { ⌜ firstOf (getEarly (now kv) (now rbp) (now «device_key») (now name)) ≡ ok ⌝ }
     ensures { λ r. ⌜ record { status = r .status; numbers = r .count ∷ []; output = now (output .exit) } ≡ storeGet (now (kv .entry)) (now (rbp .entry)) (now («device_key» .entry)) (now (name .entry)) offset (now (output .entry)) .answer ⌝ }
 {
-    let judged = judge_held(kv, rbp, device_key, name, offset);
-    if judged.status != status::OK {
+    let seen = look_up(kv, rbp, name);
+    if seen.status != status::OK {
         return Got {
-            status: judged.status,
+            status: seen.status,
             count: 0,
         };
     }
-    let stored = areas::payload_at(AreaKind::Kv, kv, judged.found);
-    let count = read_record(parts::array16(device_key), name, stored, offset, output);
-    Got {
-        status: status::OK,
-        count,
-    }
+    let entry = seen.entry;
+    let stored = areas::payload_at(AreaKind::Kv, kv, seen.found);
+    let tag = areas::payload_at(AreaKind::Rbp, rbp, entry);
+    let mix = tables::mix_table();
+    let sub = tables::sbox_table();
+    let device = key_for(&mix, &sub, device_key, stored);
+    get_record(
+        &mix,
+        &sub,
+        device,
+        name,
+        offset,
+        stored,
+        entry.held,
+        tag,
+        output,
+    )
 }
 
 pub fn get(

@@ -4,6 +4,8 @@ use crate::judge;
 use crate::judge::Judged;
 use crate::status;
 use buffers::parts;
+use cipher::kdf;
+use cipher::tables;
 use records::flags as flag;
 use records::record;
 use records::seal;
@@ -14,9 +16,12 @@ use slots::names;
 ghost use mathlib.Core.Path.{_≡_};
 ghost use mathlib.Core.Bool.{true};
 ghost use mathlib.Core.List.{[], _++_};
+ghost use Prim.Native.Nat.{_≤_};
+ghost use lib.ListN.{length};
+ghost use Rattle.buffers.specs.Bytes.{zeroFill};
 ghost use Rattle.spec.specs.Area.{kvFormat, rbpFormat};
 ghost use Rattle.spec.specs.Name.{validName};
-ghost use Rattle.spec.specs.Record.{requireReplayProtection, Sealable};
+ghost use Rattle.spec.specs.Record.{requireReplayProtection, Sealable, sealRecord};
 ghost use Rattle.spec.specs.Status.{firstOf};
 ghost use Rattle.spec.specs.Decisions.{setHeld, spaceTests};
 ghost use Rattle.spec.specs.Calls.{bindingOf, roomOf, storeSet};
@@ -99,6 +104,17 @@ pub fn space_status(flags: u32, held: bool, kv_space: bool, tag_held: bool, rbp_
     status::OK
 }
 
+// The record of the arguments. The tables are taken once, and the device key prepared once, where the flags ask for keys.
+fn make_record(device_key: [u8; 16], name: &[u8], flags: u32, iv: [u8; 8], data: &[u8]) -> [u8; 516]
+    requires { ⌜ length (now «data») ≤ 480 ⌝ }
+    ensures { λ r. ⌜ r ≡ zeroFill 516 (sealRecord «device_key» (now (name .entry)) flags iv (now («data» .entry))) ⌝ }
+{
+    let mix = tables::mix_table();
+    let sub = tables::sbox_table();
+    let device = kdf::prepare_if(flag::needs_keys(flags), &mix, &sub, device_key);
+    seal::seal_record(&mix, &sub, device, name, flags, iv, data)
+}
+
 // The record goes to its slot, and with replay protection its CMAC to the chip's.
 pub fn write_record(
     kv: &mut [u8],
@@ -116,7 +132,7 @@ pub fn write_record(
     requires { ⌜ (validName (now name) ≡ true) × (Sealable flags iv (now «data»)) ⌝ }
     ensures { λ _. ⌜ record { kv = now (kv .exit); rbp = now (rbp .exit) } ≡ recordWritten (now (kv .entry)) (now (rbp .entry)) found entry «device_key» (now (name .entry)) flags iv (now («data» .entry)) ⌝ }
 {
-    let record_buf = seal::seal_record(device_key, name, flags, iv, data);
+    let record_buf = make_record(device_key, name, flags, iv, data);
     let len = data.len() + 36;
     areas::insert_at(AreaKind::Kv, kv, found, name, &record_buf[0..len]);
     if flag::require_replay_protection(flags) {

@@ -1,68 +1,109 @@
--- `store::get::get_held`: what the judgement says, then the record is read.
-use mathlib.Core.Path.{ap, _∙_}
-use mathlib.Core.List.{List}
-use Prim.Native.Nat.{ℕ}
+-- `store::get::get_held`: a refusal without a key, or what the record gives.
+use mathlib.Core.Path.{_∙_}
 use borrow.Author.Needs.{needs}
-use Rattle.spec.specs.Decisions.{readOutput}
-use Rattle.store.proofs.GetCall.{get-accepted, got-refused, got-done}
+use Rattle.store.proofs.GetCall.{get-sane, looked-refused, looked, got-refused}
 use Rattle.store.proofs.get.get_held.Statement.{statement}
 use Rattle.store.proofs.get.get_held.Tie as tie
 
+look-up-requires : tie.Need-look-up-requires
+look-up-requires c κs =
+    let start = c .before .before .before .before .before in
+    get-sane (start .args .kv .now) (start .args .rbp .now) (start .args .device-key .now) (start .args .name .now) (start .pre)
+
 returns : tie.Need-returns
 returns c =
-    let args = c .before .before .before .before .before .before .before .before .args in
-    let judge = c .before .before .judge-held in
+    let start = c .before .before .before .before .before .before .before .before in
+    let args = start .args in
+    let look-up = c .before .before .look-up in
+    let seen = looked-refused (args .kv .now) (args .rbp .now) (args .device-key .now) (args .name .now) (start .pre)
+    (look-up .result) (look-up .ensures) (args .offset) (c .if1 .taken) in
     got-refused (args .kv .now) (args .rbp .now) (args .device-key .now) (args .name .now) (args .offset)
-    (judge .result) (judge .ensures) (args .output .now) (c .if1 .taken)
+    (look-up .result) seen (args .output .now) (c .if1 .taken)
 
 payload-at-requires : tie.Need-payload-at-requires
 payload-at-requires c κs =
-    let args = c .before .before .before .before .before .before .before .before .args in
-    let judge = c .before .before .judge-held in
-    let a = get-accepted (args .kv .now) (args .rbp .now) (args .device-key .now) (args .name .now) (args .offset)
-    (judge .result) (judge .ensures) (c .if1 .left) in
-    a .kv-found
-
-array16-requires : tie.Need-array16-requires
-array16-requires c κs =
-    let args = c .before .before .before .before .before .before .before .before .before .args in
-    let judge = c .before .before .before .judge-held in
+    let start = c .before .before .before .before .before .before .before .before .before in
+    let args = start .args in
+    let look-up = c .before .before .before .look-up in
     let if1 = c .before .if1 in
-    let a = get-accepted (args .kv .now) (args .rbp .now) (args .device-key .now) (args .name .now) (args .offset)
-    (judge .result) (judge .ensures) (if1 .left) in
-    a .key-sized
+    let seen = looked (args .kv .now) (args .rbp .now) (args .device-key .now) (args .name .now) (start .pre)
+    (look-up .result) (look-up .ensures) (if1 .left) in
+    seen .kv-found
 
-read-record-requires : tie.Need-read-record-requires
-read-record-requires c κs =
-    let args = c .before .before .before .before .before .before .before .before .before .before .before .args in
-    let judge = c .before .before .before .before .before .judge-held in
-    let if1 = c .before .before .before .if1 in
-    let payload-at = c .before .before .payload-at in
-    let a = get-accepted (args .kv .now) (args .rbp .now) (args .device-key .now) (args .name .now) (args .offset)
-    (judge .result) (judge .ensures) (if1 .left) in
-    (a .valid _ (payload-at .ensures), a .in-range _ (payload-at .ensures))
+payload-at-requires-2 : tie.Need-payload-at-requires-2
+payload-at-requires-2 c κs =
+    let start = c .before .before .before .before .before .before .before .before .before .before in
+    let args = start .args in
+    let look-up = c .before .before .before .before .look-up in
+    let if1 = c .before .before .if1 in
+    let seen = looked (args .kv .now) (args .rbp .now) (args .device-key .now) (args .name .now) (start .pre)
+    (look-up .result) (look-up .ensures) (if1 .left) in
+    seen .rbp-found
 
-returns-2 : tie.Need-returns-2
-returns-2 c =
-    let args = c .before .before .before .before .before .before .before .before .before .before .before .before .before .before .args in
-    let judge = c .before .before .before .before .before .before .before .before .judge-held in
-    let if1 = c .before .before .before .before .before .before .if1 in
+mix-table-requires : tie.Need-mix-table-requires
+mix-table-requires c κs = search needs
+
+sbox-table-requires : tie.Need-sbox-table-requires
+sbox-table-requires c κs = search needs
+
+key-for-requires : tie.Need-key-for-requires
+key-for-requires c κs =
+    let sbox-table = c .before .before .sbox-table in
+    let mix-table = c .before .before .before .mix-table in
     let payload-at = c .before .before .before .before .before .payload-at in
-    let array16 = c .before .before .before .before .array16 in
-    let read-record = c .before .before .read-record in
-    let a = get-accepted (args .kv .now) (args .rbp .now) (args .device-key .now) (args .name .now) (args .offset)
-    (judge .result) (judge .ensures) (if1 .left) in
-    let out = args .output .now in
-    let r = payload-at .result .now in
-    let bytes = read-record .ensures .1 ∙ ap (λ (k : List ℕ). readOutput k (args .name .now) (args .offset) out r) (array16 .ensures) in
-    got-done (args .kv .now) (args .rbp .now) (args .device-key .now) (args .name .now) (args .offset)
-    (judge .result) (judge .ensures) out a r (payload-at .ensures) _ (read-record .ensures .0) _ bytes
+    let earlier = c .before .before .before .before .before .before .before .before .before .before in
+    let start = earlier .before .before .before .before .before in
+    let args = start .args in
+    let look-up = c .before .before .before .before .before .before .before .before .before .look-up in
+    let if1 = c .before .before .before .before .before .before .before .if1 in
+    let seen = looked (args .kv .now) (args .rbp .now) (args .device-key .now) (args .name .now) (start .pre)
+    (look-up .result) (look-up .ensures) (if1 .left) in
+    ((mix-table .ensures, sbox-table .ensures), (seen .key-sized, seen .valid _ (payload-at .ensures)))
 
-judge-held-requires : tie.Need-judge-held-requires
-judge-held-requires c κs = search needs
+get-record-requires : tie.Need-get-record-requires
+get-record-requires c κs =
+    let key-for = c .before .before .before .key-for in
+    let payload-at2 = c .before .before .before .before .before .before .before .before .payload-at2 in
+    let payload-at = c .before .before .before .before .before .before .before .before .before .payload-at in
+    let earlier = c .before .before .before .before .before .before .before .before .before .before in
+    let start = earlier .before .before .before .before .before .before .before .before .before in
+    let args = start .args in
+    let look-up = c .before .before .before .before .before .before .before .before .before .before .before .before .before .look-up in
+    let if1 = c .before .before .before .before .before .before .before .before .before .before .before .if1 in
+    let seen = looked (args .kv .now) (args .rbp .now) (args .device-key .now) (args .name .now) (start .pre)
+    (look-up .result) (look-up .ensures) (if1 .left) in
+    ((seen .sixteen _ (payload-at2 .ensures), seen .valid _ (payload-at .ensures)), key-for .ensures .1)
 
 same-length : tie.Need-same-length
 same-length c = search needs
 
+returns-2 : tie.Need-returns-2
+returns-2 c =
+    let get-record = c .before .before .get-record in
+    let key-for = c .before .before .before .before .before .before .key-for in
+    let payload-at2 = c .before .before .before .before .before .before .before .before .before .before .before .payload-at2 in
+    let payload-at = c .before .before .before .before .before .before .before .before .before .before .before .before .payload-at in
+    let earlier = c .before .before .before .before .before .before .before .before .before .before in
+    let start = earlier .before .before .before .before .before .before .before .before .before .before .before .before in
+    let args = start .args in
+    let look-up = c .before .before .before .before .before .before .before .before .before .before .before .before .before .before .before .before .look-up in
+    let if1 = c .before .before .before .before .before .before .before .before .before .before .before .before .before .before .if1 in
+    let seen = looked (args .kv .now) (args .rbp .now) (args .device-key .now) (args .name .now) (start .pre)
+    (look-up .result) (look-up .ensures) (if1 .left) in
+    get-record .ensures
+    ∙ seen .got (args .offset) (args .output .now) _ _ _ (payload-at .ensures) (payload-at2 .ensures) (key-for .ensures .0)
+
 pub get-held-spec : {M : Type 1} → statement M
-get-held-spec = tie.close (tie.spec judge-held-requires returns payload-at-requires array16-requires read-record-requires same-length returns-2)
+get-held-spec =
+    tie.close
+    (tie.spec
+    look-up-requires
+    returns
+    payload-at-requires
+    payload-at-requires-2
+    mix-table-requires
+    sbox-table-requires
+    key-for-requires
+    get-record-requires
+    same-length
+    returns-2)
