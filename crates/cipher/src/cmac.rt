@@ -118,10 +118,10 @@ fn last_block(rest: &[u8], zero: Columns) -> Columns
     let subkey1 = doubled(zero);
     let n = rest.len();
     if n < 16 {
-        let mut padded = [0u8; 16];
-        parts::paste(&mut padded, 0, rest);
-        padded[n] = 0x80;
-        return aes::add(aes::load(&padded), doubled(subkey1));
+        let mut copied = [0u8; 16];
+        parts::paste(&mut copied, 0, rest);
+        copied[n] = 0x80;
+        return aes::add(aes::load(&copied), doubled(subkey1));
     }
     aes::add(aes::load_at(rest, 0), subkey1)
 }

@@ -24,8 +24,8 @@ slice-aggregate-paste c = search needs
 paste-requires : tie.Need-paste-requires
 paste-requires c κs = search needs
 
-array-write-padded : tie.Need-array-write-padded
-array-write-padded c = search needs
+array-write-copied : tie.Need-array-write-copied
+array-write-copied c = search needs
 
 load-requires : tie.Need-load-requires
 load-requires c κs = search needs
@@ -78,7 +78,7 @@ last-block-spec =
     doubled-requires
     slice-aggregate-paste
     paste-requires
-    array-write-padded
+    array-write-copied
     load-requires
     doubled-requires-2
     add-requires
