@@ -1,4 +1,4 @@
-// Comparisons: those for equality look at every byte, and decide at the end or leave it to the caller; that for order stops where two bytes differ.
+// Comparisons: those for equality look at every byte, and decide at the end or leave it to the caller; that for order stops at the first four that differ.
 ghost use mathlib.Core.Path.{_≡_};
 ghost use Prim.Native.Nat.{_+_, _*_, _≤_, _<_, min};
 ghost use lib.ListN.{length, getD, drop};

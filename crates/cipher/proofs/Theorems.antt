@@ -1,6 +1,7 @@
 -- Every statement of `specs/Laws`, with its proof. This is all of `proofs` that other crates use.
 use Rattle.cipher.specs.Laws.{FieldLaw, InverseLaw, SboxLaw, ExpandedKey, DoubleLaw, CmacLaw}
-use Rattle.cipher.specs.Laws.{StateLaw, FeedAppend, TagOfParts, OneShot, KeysKept, FullBlock, BigEndian, CtrLaw, CtrTwice, CtrFront, DerivationLaw, LengthLaw}
+use Rattle.cipher.specs.Laws.{StateLaw, FeedAppend, TagOfParts, OneShot, KeysKept, FullBlock}
+use Rattle.cipher.specs.Laws.{BigEndian, CtrLaw, CtrTwice, CtrFront, DerivationLaw, LengthLaw}
 use Rattle.cipher.proofs.Product.{field-law}
 use Rattle.cipher.proofs.Inverse.{inverse-law}
 use Rattle.cipher.proofs.Rule.{sbox-law}

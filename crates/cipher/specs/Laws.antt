@@ -92,7 +92,7 @@ abbrev pub TagOfParts : Type 0
 TagOfParts = (key : List ℕ) → ((i : ℕ) → getD key i 0 < 256) → (s : CmacState) → s .keys ≡ expandKey key → (parts : List (List ℕ))
     → finished (foldl fed (begun s) parts) .block ≡ cmac key (flatten parts)
 
--- What `cmac_tag`, `cmac_tag_parts` and `kdf_counter_cmac` promise is the tag of a state for the key that is begun, fed the parts and finished.
+-- What `cmac_tag`, `tag_parts` and `kdf_counter_cmac` promise is the tag of a state for the key that is begun, fed the parts and finished.
 pub record OneShot : Type 0 where
   pub whole : (key : List ℕ) → ((i : ℕ) → getD key i 0 < 256) → (m : List ℕ) → cmac key m ≡ finished (fed (begun (keyed key)) m) .block
   pub parts : (key : List ℕ) → ((i : ℕ) → getD key i 0 < 256) → (a b : List ℕ)

@@ -218,7 +218,7 @@ pub(crate) fn store(s: Columns) -> [u8; 16]
     ]
 }
 
-// Rcon[i + 2] from Rcon[i + 1]: times x, in the first byte.
+// Rcon[i + 2] from Rcon[i + 1]: times x, in the first byte. Of the ten constants 0x80 alone passes x^8.
 fn next_constant(i: usize, c: u32) -> u32
     requires { ⌜ (i < 10) × (c ≡ wordNumber (rcon i)) ⌝ }
     ensures { λ r. ⌜ r ≡ wordNumber (rcon (i + 1)) ⌝ }
@@ -265,6 +265,7 @@ pub(crate) fn expand_into(sub: &[u8; 256], key: &[u8; 16], keys: &mut [u32; 44])
     }
 }
 
+// The same, with the S-box taken here.
 pub fn expand_key(key: &[u8; 16]) -> [u32; 44]
     ensures { λ r. ⌜ r ≡ expandKey (now (key .entry)) ⌝ }
 {

@@ -110,7 +110,7 @@ fn close_block(block: [u8; 16], pending: usize, zero: Columns) -> Columns
     aes::add(aes::load(&block), subkey1)
 }
 
-// The same of a block that nothing was added to: the last of a message, by itself.
+// The same of a message's last block by itself: it is copied, not added byte by byte, and does not wait for the chain.
 fn last_block(rest: &[u8], zero: Columns) -> Columns
     requires { ⌜ length (now rest) ≤ 16 ⌝ }
     ensures { λ r. ⌜ blockOf (columnsState r) ≡ closedBlock (xorFrom (replicate 16 0) 0 (now (rest .entry))) (length (now (rest .entry))) (double (blockOf (columnsState zero))) (double (double (blockOf (columnsState zero)))) ⌝ }
@@ -178,7 +178,7 @@ pub(crate) fn close(t: &[u32; 256], keys: &[u32; 44], zero: Columns, from: Pendi
     aes::store(aes::encrypt_words(t, keys, x.c0, x.c1, x.c2, x.c3))
 }
 
-// The tag of a whole message under an expanded key. The last block does not wait for the chain.
+// The tag of a whole message under an expanded key.
 pub(crate) fn tag_of(t: &[u32; 256], keys: &[u32; 44], zero: Columns, message: &[u8]) -> [u8; 16]
     requires { ⌜ (now t ≡ mixTable) × (blockOf (columnsState zero) ≡ encryptWith (now keys) (replicate 16 0)) ⌝ }
     ensures { λ r. ⌜ r ≡ cmacOver (encryptWith (now (keys .entry))) (now (message .entry)) ⌝ }

@@ -81,7 +81,8 @@ loop-again c =
     let stream = ap blockOf (done .encrypt-words .ensures ∙ ap (cipher (keptKey ks)) counter) in
     let part = added .add-stream .ensures ∙ ap (λ (k : ℕ). xorBytes (take k d) (blockOf (columnsState (done .encrypt-words .result)))) back in
     let new = ap (λ (k : ℕ). take i (l .buf) ++ (added .add-stream .last .0 ++ drop k d)) back in
-    let step = block-step (encryptWith ks) (a .iv) (a .count) (l .buf) _ _ _ i n (l .blocks) here (omega arith) (omega arith) (block-length _) stream part new in
+    let step =
+    block-step (encryptWith ks) (a .iv) (a .count) (l .buf) _ _ _ i n (l .blocks) here (omega arith) (omega arith) (block-length _) stream part new in
     (omega arith, search needs, omega arith, (λ h. omega (arith, here)), step ∙ l .inv .4)
 
 same-length : tie.Need-same-length Inv-loop μ-loop

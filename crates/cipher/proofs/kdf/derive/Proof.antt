@@ -61,11 +61,13 @@ add-end-2 c = search needs
 
 array-share-prefix-message : tie.Need-array-share-prefix-message
 array-share-prefix-message c =
-    let cut = c .before .before .before .before .before .before .before .before in simp length-set (omega (arith, cut .least2 .ensures, cut .before .least .ensures))
+    let cut = c .before .before .before .before .before .before .before .before in
+    simp length-set (omega (arith, cut .least2 .ensures, cut .before .least .ensures))
 
 slice-aggregate-tag-of : tie.Need-slice-aggregate-tag-of
 slice-aggregate-tag-of c =
-    let cut = c .before .before .before .before .before .before .before .before .before in simp (length-take, length-set) (omega (arith, cut .least2 .ensures, cut .before .least .ensures))
+    let cut = c .before .before .before .before .before .before .before .before .before in
+    simp (length-take, length-set) (omega (arith, cut .least2 .ensures, cut .before .least .ensures))
 
 tag-of-requires : tie.Need-tag-of-requires
 tag-of-requires c κs = search needs

@@ -40,13 +40,22 @@ slice-aggregate-absorb-2 : tie.Need-slice-aggregate-absorb-2
 slice-aggregate-absorb-2 c = search needs
 
 absorb-requires-4 : tie.Need-absorb-requires-4
-absorb-requires-4 c κs = c .before .before .before .before .before .before .before .before .before .before .before .before .before .before .before .before .before .before .before .mix-table .ensures
+absorb-requires-4 c κs =
+    let s₃ = c .before .before .before in
+    let s₁ = s₃ .before .before .before .before .before .before in
+    s₁ .before .before .before .before .before .before .before .before .before .before .mix-table .ensures
 
 zero-block-requires : tie.Need-zero-block-requires
-zero-block-requires c κs = c .before .before .before .before .before .before .before .before .before .before .before .before .before .before .before .before .before .before .before .before .before .before .before .before .mix-table .ensures
+zero-block-requires c κs =
+    let s₃ = c .before .before .before .before .before .before .before .before in
+    let s₁ = s₃ .before .before .before .before .before .before in
+    s₁ .before .before .before .before .before .before .before .before .before .before .mix-table .ensures
 
 close-requires : tie.Need-close-requires
-close-requires c κs = (c .before .before .before .before .before .before .before .before .before .before .before .before .before .before .before .before .before .before .before .before .before .before .before .before .before .mix-table .ensures, c .zero-block .ensures)
+close-requires c κs =
+    let s₃ = c .before .before .before .before .before .before .before .before .before in
+    let s₁ = s₃ .before .before .before .before .before .before in
+    (s₁ .before .before .before .before .before .before .before .before .before .before .mix-table .ensures, c .zero-block .ensures)
 
 returns : tie.Need-returns
 unfolding begun keyed stateWith nonePending
