@@ -5,7 +5,7 @@ use Prim.Native.Nat.{ℕ, suc, _+_, _-_, _≤_, _<_}
 use native.Mathlib.Nat.{add-zero}
 use native.Mathlib.Omega.{arith}
 use lib.Bits.{bitXor}
-use lib.ListN.{length, length-append, length-replicate, drop, getD, set, replicate}
+use lib.ListN.{length, length-append, length-replicate, drop, getD, set}
 use lib.Seq.{getD-append-add}
 use Rattle.buffers.specs.Bytes.{putAt}
 use Rattle.cipher.specs.CmacState.{xorAt, xorFrom}

@@ -1,13 +1,13 @@
 -- The doubling of a block in four 32-bit numbers. Assumes nothing.
-use mathlib.Core.Path.{_≡_, refl, sym, ap, ap₂, _∙_}
-use mathlib.Core.List.{List, [], _∷_, _++_, zipWith}
+use mathlib.Core.Path.{_≡_, sym, ap, _∙_}
+use mathlib.Core.List.{List}
 use Prim.Native.Nat.{ℕ, _+_, _*_, _/_, _%_, _^_, _≤_, _<_}
 use native.Mathlib.Omega.{arith}
 use lib.Bits.{bitXor, xor-zero-r}
-use lib.Dec.{ltb, lit<}
-use lib.ListN.{getD, replicate}
+use lib.Dec.{lit<}
+use lib.ListN.{getD}
 use borrow.Author.Tests.{lt-ltb, le-ltb}
-use Rattle.cipher.specs.Aes.{Word, State, numberWord, wordBytes, blockOf, xorWord, addRoundKey}
+use Rattle.cipher.specs.Aes.{Word, numberWord, wordBytes, blockOf, xorWord, addRoundKey}
 use Rattle.cipher.specs.Cmac.{xorBytes, shiftLeft, r128, double}
 use Rattle.cipher.specs.Columns.{wordsState}
 use Rattle.cipher.proofs.Words.{bytes32, word-of, word-ext, state-ext, number-xor}

@@ -6,7 +6,7 @@ use native.Mathlib.Numerals.{add-one, add-two, add-three}
 use native.Mathlib.Omega.{arith}
 use lib.Dec.{lit<}
 use lib.Bits.{bitXor}
-use lib.ListN.{length, length-append, length-take, getD, take, drop, set}
+use lib.ListN.{length, length-append, length-take, take, drop, set}
 use lib.Seq.{sets-eq, take-at}
 use borrow.Author.Tests.{lt-ltb}
 use Rattle.cipher.specs.Field.{xtime}

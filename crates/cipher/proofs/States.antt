@@ -1,11 +1,11 @@
 -- States and the sixteen bytes that they stand for. Assumes nothing.
 use mathlib.Core.Path.{_≡_, refl, sym, ap, ap₂, _∙_}
-use mathlib.Core.List.{List, [], _∷_, _++_, zipWith}
+use mathlib.Core.List.{List, _∷_, zipWith}
 use Prim.Native.Nat.{ℕ, zero, suc, _+_, _-_, _/_, _≤_}
 use native.Mathlib.Omega.{arith}
 use lib.ListN.{length, getD, take, drop}
 use lib.Seq.{getD-drop, drop-cons, drop-drop, take-all}
-use Rattle.cipher.specs.Aes.{Word, State, wordAt, stateOf, wordBytes, blockOf, xorWord, addRoundKey, cipher, keptKey, encryptWith}
+use Rattle.cipher.specs.Aes.{State, wordAt, stateOf, wordBytes, blockOf, xorWord, addRoundKey, cipher, keptKey, encryptWith}
 use Rattle.cipher.specs.Sbox.{tableFrom}
 use Rattle.cipher.specs.Cmac.{xorBytes, chain}
 use Rattle.cipher.proofs.Words.{word-ext}

@@ -1,14 +1,14 @@
 -- Counter mode, block by block. Assumes nothing.
 use mathlib.Core.Path.{_≡_, refl, sym, ap, ap₂, _∙_}
 use mathlib.Core.List.{List, [], _∷_, _++_, append-nil, append-assoc, zipWith}
-use Prim.Native.Nat.{ℕ, zero, suc, _+_, _*_, _/_, _%_, _^_, _≤_, _<_}
+use Prim.Native.Nat.{ℕ, suc, _+_, _*_, _/_, _%_, _^_, _≤_, _<_}
 use native.Mathlib.Nat.{add-zero, div-div-eq-div-mul}
 use native.Mathlib.Numerals.{add-one}
 use native.Mathlib.Omega.{arith}
 use lib.Bits.{bitXor}
 use lib.ListN.{length, length-append, length-take, length-drop, getD, set, take, drop, take-append-drop, drop-of-length-le, List·getD-append}
 use lib.Pow.{mod-mod-pow}
-use lib.Seq.{take-all, take-at, drop-at, drop-cons, drop-drop, take-suc-set, drop-set-lt, append-snoc, getD-append-add, length-take-le}
+use lib.Seq.{take-all, take-at, drop-at, drop-cons, take-suc-set, drop-set-lt, append-snoc, getD-append-add, length-take-le}
 use Rattle.cipher.specs.Aes.{State, numberWord, wordAt, wordBytes, stateOf, blockOf, xorWord, addRoundKey}
 use Rattle.cipher.specs.Columns.{wordsState}
 use Rattle.cipher.specs.Cmac.{xorBytes}

@@ -1,5 +1,4 @@
 -- `records::flags::needs_keys`: one flag or the other.
-use mathlib.Core.Path.{_∙_}
 use borrow.Author.Needs.{needs}
 use Rattle.records.proofs.flags.needs_keys.Statement.{statement}
 use Rattle.records.proofs.flags.needs_keys.Tie as tie
