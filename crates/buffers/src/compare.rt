@@ -1,7 +1,8 @@
 // Comparisons: those for equality look at every byte, and decide at the end or leave it to the caller; that for order stops at the first four that differ.
+use crate::numbers;
 ghost use mathlib.Core.Path.{_≡_};
-ghost use Prim.Native.Nat.{_+_, _*_, _≤_, _<_, min};
-ghost use lib.ListN.{length, getD, drop};
+ghost use Prim.Native.Nat.{_≤_, min};
+ghost use lib.ListN.{length, drop};
 ghost use Rattle.buffers.specs.Bytes.{allZero, bytesEq};
 ghost use Rattle.buffers.specs.Compare.{precedes, diffAccumulate};
 
@@ -49,35 +50,12 @@ pub fn tag_difference(a: [u8; 16], b: [u8; 16]) -> u8
     diff_accumulate(&a, &b)
 }
 
-fn shorter(a: usize, b: usize) -> usize
-    ensures { λ r. ⌜ r ≡ min a b ⌝ }
-{
-    if a < b {
-        return a;
-    }
-    b
-}
-
-fn wide(x: u8) -> u32
-    ensures { λ r. ⌜ (r ≡ x) × (r < 256) ⌝ }
-{
-    x as u32
-}
-
-// Four bytes as a number that orders as they do. A sum of just this shape is compiled to one load.
-fn be32(s: &[u8], i: usize) -> u32
-    requires { ⌜ i + 4 ≤ length (now s) ⌝ }
-    ensures { λ r. ⌜ r ≡ getD (now (s .entry)) i 0 * 0x1000000 + getD (now (s .entry)) (i + 1) 0 * 0x10000 + getD (now (s .entry)) (i + 2) 0 * 0x100 + getD (now (s .entry)) (i + 3) 0 ⌝ }
-{
-    wide(s[i]) * 0x1000000 + wide(s[i + 1]) * 0x10000 + wide(s[i + 2]) * 0x100 + wide(s[i + 3])
-}
-
 // The order of what stands from `start` on.
 fn precedes_from(a: &[u8], b: &[u8], start: usize) -> bool
     requires { ⌜ start ≤ min (length (now a)) (length (now b)) ⌝ }
     ensures { λ r. ⌜ r ≡ precedes (drop start (now (a .entry))) (drop start (now (b .entry))) ⌝ }
 {
-    let n = shorter(a.len(), b.len());
+    let n = numbers::least(a.len(), b.len());
     let mut i = start;
     while i < n {
         if a[i] != b[i] {
@@ -92,11 +70,11 @@ fn precedes_from(a: &[u8], b: &[u8], start: usize) -> bool
 pub fn precedes(a: &[u8], b: &[u8]) -> bool
     ensures { λ r. ⌜ r ≡ precedes (now (a .entry)) (now (b .entry)) ⌝ }
 {
-    let n = shorter(a.len(), b.len());
+    let n = numbers::least(a.len(), b.len());
     let mut i: usize = 0;
     while i + 4 <= n {
-        let x = be32(a, i);
-        let y = be32(b, i);
+        let x = numbers::be32_at(a, i);
+        let y = numbers::be32_at(b, i);
         if x != y {
             return x < y;
         }

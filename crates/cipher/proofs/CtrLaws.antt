@@ -27,7 +27,7 @@ module _ (ciph : List ℕ → List ℕ) (iv : List ℕ) (count : ℕ) where
   from-twice j [] = refl
   from-twice j (b ∷ bs) = rw (xor-twice b (streamByte ciph iv count j), from-twice (suc j) bs)
 
-  from-length : (j : ℕ) (m : List ℕ) → length (ctrFrom ciph iv count j m) ≡ length m
+  pub from-length : (j : ℕ) (m : List ℕ) → length (ctrFrom ciph iv count j m) ≡ length m
   unfolding ctrFrom
   from-length j [] = refl
   from-length j (b ∷ bs) = ap suc (from-length (suc j) bs)

@@ -5,6 +5,7 @@ pub mod CtrLaws
 pub mod Lengths
 pub mod Mix
 pub mod KeySchedule
+pub mod SharedRound
 pub mod States
 pub mod Doubling
 pub mod Expanded

@@ -53,7 +53,7 @@ cycle : (a b c d : ℕ) → bitXor (bitXor (bitXor a b) c) d ≡ bitXor (bitXor 
 cycle a b c d = rw (xor-assoc a b c, xor-assoc a (bitXor b c) d) (xor-comm a (bitXor (bitXor b c) d))
 
 -- 5.1.3, by bytes: each byte's part of the mixed column, turned to the byte's row
-mix-sum : (p q r s : ℕ)
+pub mix-sum : (p q r s : ℕ)
     → xorWord (xorWord (xorWord (mixWord p) (rotWord (rotWord (rotWord (mixWord q))))) (rotWord (rotWord (mixWord r)))) (rotWord (mixWord s))
     ≡ mixColumn (record { b0 = p; b1 = q; b2 = r; b3 = s })
 unfolding xorWord mixWord rotWord mixColumn mixByte

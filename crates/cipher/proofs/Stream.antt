@@ -10,16 +10,17 @@ use lib.ListN.{length, length-append, length-take, length-drop, getD, set, take,
 use lib.Pow.{mod-mod-pow}
 use lib.Seq.{take-all, take-at, drop-at, drop-cons, take-suc-set, drop-set-lt, append-snoc, getD-append-add, length-take-le}
 use Rattle.cipher.specs.Aes.{State, numberWord, wordAt, wordBytes, stateOf, blockOf, xorWord, addRoundKey}
-use Rattle.cipher.specs.Columns.{wordsState}
+use Rattle.cipher.specs.FirstRound.{sharedRound}
 use Rattle.cipher.specs.Cmac.{xorBytes}
 use Rattle.cipher.specs.Ctr.{be64, counterBlock, streamByte, ctrFrom}
 use Rattle.cipher.proofs.Words.{word-ext, state-ext}
 use Rattle.cipher.proofs.States.{block-state, block-sum}
+use Rattle.cipher.proofs.SharedRound.{shared-same}
 use Rattle.cipher.proofs.Chain.{xor-length}
-use Rattle.cipher.proofs.CtrLaws.{byte-wraps}
+use Rattle.cipher.proofs.CtrLaws.{byte-wraps, from-length}
 
--- the counter block as four numbers
-module _ (iv : List ℕ) (count v w : ℕ) (h : length iv ≡ 8) (hv : numberWord v ≡ wordAt iv 0) (hw : numberWord w ≡ wordAt iv 4) where
+-- the counter block's four words
+module _ (iv : List ℕ) (count : ℕ) (h : length iv ≡ 8) where
   in-iv : (i : ℕ) → i < 8 → getD iv i 0 ≡ getD (counterBlock iv count) i 0
   unfolding counterBlock
   in-iv i k = sym (List·getD-append iv (be64 count) 0 i (omega arith))
@@ -33,14 +34,32 @@ module _ (iv : List ℕ) (count v w : ℕ) (h : length iv ≡ 8) (hv : numberWor
   high : (k : ℕ) → count / 2 ^ 32 / 2 ^ k % 256 ≡ count / (2 ^ 32 * 2 ^ k) % 256
   high k = ap (λ (n : ℕ). n % 256) (div-div-eq-div-mul count (2 ^ 32) (2 ^ k))
 
-  pub counter-state : wordsState v w (count / 2 ^ 32) (count % 2 ^ 32) ≡ stateOf (counterBlock iv count)
-  unfolding wordsState stateOf wordAt numberWord be64
-  counter-state =
-      state-ext (hv ∙ word-ext (in-iv 0 (omega arith)) (in-iv 1 (omega arith)) (in-iv 2 (omega arith)) (in-iv 3 (omega arith)))
-      (hw ∙ word-ext (in-iv 4 (omega arith)) (in-iv 5 (omega arith)) (in-iv 6 (omega arith)) (in-iv 7 (omega arith)))
+  pub counter-words : stateOf (counterBlock iv count)
+      ≡ record { c0 = wordAt iv 0; c1 = wordAt iv 4; c2 = numberWord (count / 2 ^ 32); c3 = numberWord (count % 2 ^ 32) }
+  unfolding stateOf wordAt numberWord be64
+  counter-words =
+      sym
+      (state-ext (word-ext (in-iv 0 (omega arith)) (in-iv 1 (omega arith)) (in-iv 2 (omega arith)) (in-iv 3 (omega arith)))
+      (word-ext (in-iv 4 (omega arith)) (in-iv 5 (omega arith)) (in-iv 6 (omega arith)) (in-iv 7 (omega arith)))
       (word-ext (high 24 ∙ in-count 8 0 refl) (high 16 ∙ in-count 9 1 refl) (high 8 ∙ in-count 10 2 refl) (in-count 11 3 refl))
       (word-ext (byte-wraps count 0 24 ∙ in-count 12 4 refl) (byte-wraps count 8 16 ∙ in-count 13 5 refl) (byte-wraps count 16 8 ∙ in-count 14 6 refl)
-      (mod-mod-pow count 24 8 ∙ in-count 15 7 refl))
+      (mod-mod-pow count 24 8 ∙ in-count 15 7 refl)))
+
+-- the count's high word is the same until its low word starts again
+pub same-high : (count next : ℕ) → count < 2 ^ 64 → next ≡ (count + 1) % 2 ^ 64 → 0 < next % 2 ^ 32 → count / 2 ^ 32 ≡ next / 2 ^ 32
+same-high count next h e k = omega arith
+
+-- the count of the next block
+pub next-count : (at count i : ℕ) → at ≡ (count + i / 16) % 2 ^ 64 → (at + 1) % 2 ^ 64 ≡ (count + (i + 16) / 16) % 2 ^ 64
+next-count at count i e = omega arith
+
+-- so long the counter blocks share their first round, but for the last column
+pub shared-next : (w : ℕ → State) (iv : List ℕ) (count next : ℕ) → length iv ≡ 8 → count / 2 ^ 32 ≡ next / 2 ^ 32
+    → sharedRound w (stateOf (counterBlock iv count)) ≡ sharedRound w (stateOf (counterBlock iv next))
+shared-next w iv count next h e =
+    let block : ℕ → ℕ → State = λ high low. record { c0 = wordAt iv 0; c1 = wordAt iv 4; c2 = numberWord high; c3 = numberWord low } in
+    ap (sharedRound w) (counter-words iv count h) ∙ shared-same w _ _ _ _ (numberWord (next % 2 ^ 32))
+    ∙ ap (λ (q : ℕ). sharedRound w (block q (next % 2 ^ 32))) e ∙ sym (ap (sharedRound w) (counter-words iv next h))
 
 -- four words of a block, each with its own added
 pub words-added : (k : State) (l l₁ l₂ l₃ l₄ : List ℕ) → length l ≡ 16
@@ -120,3 +139,20 @@ module _ (ciph : List ℕ → List ℕ) (iv : List ℕ) (count : ℕ) where
   pub ctr-done : (buf : List ℕ) (i : ℕ) → length buf ≤ i → buf ≡ take i buf ++ ctrFrom ciph iv count i (drop i buf)
   unfolding ctrFrom
   ctr-done buf i h = rw (take-all i buf h, drop-of-length-le buf {i = i} h) (sym (append-nil buf))
+
+  -- the bytes before i are done together, and those from i on as lent
+  module _ (l w : List ℕ) (i : ℕ) (h : i ≤ length l) (e : w ≡ ctrFrom ciph iv count 0 (take i l)) where
+    front-length : length w ≡ i
+    front-length = ap length e ∙ from-length ciph iv count 0 (take i l) ∙ length-take-le i l h
+
+    pub apart-length : length (w ++ drop i l) ≡ length l
+    apart-length = length-append w (drop i l) ∙ rw (front-length, length-drop) (omega arith)
+
+    pub apart-done : take i (w ++ drop i l) ++ ctrFrom ciph iv count i (drop i (w ++ drop i l)) ≡ ctrFrom ciph iv count 0 l
+    apart-done =
+        let r = drop i l in
+        let front : length (take i l) ≡ i = length-take-le i l h in
+        let at : i ≡ 0 + length (take i l) = omega arith in
+        ap₂ (λ (x y : List ℕ). x ++ ctrFrom ciph iv count i y) (take-at w r i front-length) (drop-at w r i front-length)
+        ∙ ap₂ (λ (x : List ℕ) (k : ℕ). x ++ ctrFrom ciph iv count k r) e at
+        ∙ sym (from-append 0 (take i l) r) ∙ ap (ctrFrom ciph iv count 0) (take-append-drop i l)

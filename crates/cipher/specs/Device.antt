@@ -16,6 +16,10 @@ prepared key = record { key = key; keys = expandKey key; zero = encryptWith (exp
 unfoldable pub bare : List ℕ → DeviceKey
 bare key = record { key = key; keys = replicate 44 0; zero = replicate 16 0 }
 
--- what is lent to whatever derives keys: the two tables, and a device key with what belongs to it
+-- what is lent to a derivation: the table of MixColumns, and a device key with what belongs to it
+abbrev pub CanDerive : List ℕ → DeviceKey → Type 0
+CanDerive mix device = (mix ≡ mixTable) × (device ≡ prepared (device .key))
+
+-- what is lent to whatever derives keys and works under them: the S-box too
 abbrev pub Ready : List ℕ → List ℕ → DeviceKey → Type 0
 Ready mix sub device = (mix ≡ mixTable) × (sub ≡ sbox) × (device ≡ prepared (device .key))

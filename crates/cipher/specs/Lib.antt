@@ -3,6 +3,7 @@ pub mod Sbox
 pub mod Aes
 pub mod Tables
 pub mod Columns
+pub mod FirstRound
 pub mod Cmac
 pub mod CmacState
 pub mod Pending

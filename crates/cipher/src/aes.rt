@@ -1,5 +1,6 @@
 // AES-128 (FIPS 197). Inside, the state is four 32-bit columns, each with its first byte highest.
 use crate::tables;
+use buffers::numbers;
 ghost use mathlib.Core.Path.{_≡_};
 ghost use mathlib.Core.List.{_++_};
 ghost use lib.ListN.{length, take, drop};
@@ -9,19 +10,15 @@ ghost use Rattle.cipher.specs.Tables.{mixTable, mixWord};
 ghost use Rattle.cipher.specs.Aes.{numberWord, rotWord, subWord, mixColumn, diagonal, wordAt, stateOf, blockOf};
 ghost use Rattle.cipher.specs.Aes.{subBytes, shiftRows, mixColumns, addRoundKey, keptKey, encryptWith};
 ghost use Rattle.cipher.specs.Aes.{wordNumber, rcon, nextRoundKey, stateNumbers, expandKey, cipher, aes128};
+ghost use Rattle.cipher.specs.Aes.{State, afterRounds};
 ghost use Rattle.cipher.specs.Columns.{columnsState, wordsState};
+ghost use Rattle.cipher.specs.FirstRound.{lastColumnPart, sharedRound};
 
 pub(crate) struct Columns {
     pub(crate) c0: u32,
     pub(crate) c1: u32,
     pub(crate) c2: u32,
     pub(crate) c3: u32,
-}
-
-fn wide(b: u8) -> u32
-    ensures { λ r. ⌜ (r ≡ b) × (r < 256) ⌝ }
-{
-    b as u32
 }
 
 fn word(b0: u32, b1: u32, b2: u32, b3: u32) -> u32
@@ -168,12 +165,7 @@ pub(crate) fn word_at(bytes: &[u8], i: usize) -> u32
     requires { ⌜ i + 4 ≤ length (now bytes) ⌝ }
     ensures { λ r. ⌜ numberWord r ≡ wordAt (now (bytes .entry)) i ⌝ }
 {
-    word(
-        wide(bytes[i]),
-        wide(bytes[i + 1]),
-        wide(bytes[i + 2]),
-        wide(bytes[i + 3]),
-    )
+    numbers::be32_at(bytes, i)
 }
 
 // Sixteen bytes of a buffer as a state.
@@ -275,7 +267,29 @@ pub fn expand_key(key: &[u8; 16]) -> [u32; 44]
     keys
 }
 
-// A state encrypted under an expanded key, with the table lent. Columns are passed as numbers, which stay in registers.
+// The rounds after the first `from`, the last one too. Columns are passed as numbers, which stay in registers.
+fn rounds_from(
+    t: &[u32; 256],
+    keys: &[u32; 44],
+    from: usize,
+    c0: u32,
+    c1: u32,
+    c2: u32,
+    c3: u32,
+) -> Columns
+    requires { ⌜ (now t ≡ mixTable) × (from ≤ 9) ⌝ }
+    ensures { λ n. ⌜ ((s : State) → wordsState c0 c1 c2 c3 ≡ afterRounds (keptKey (now (keys .entry))) from s → columnsState n ≡ cipher (keptKey (now (keys .entry))) s) ⌝ }
+{
+    let mut s = Columns { c0, c1, c2, c3 };
+    let mut r = from;
+    while r < 9 {
+        r += 1;
+        s = add_round_key(keys, r, mix_columns(t, s));
+    }
+    add_round_key(keys, 10, shift_rows(t, s))
+}
+
+// A state encrypted under an expanded key, with the table lent.
 pub(crate) fn encrypt_words(
     t: &[u32; 256],
     keys: &[u32; 44],
@@ -287,13 +301,40 @@ pub(crate) fn encrypt_words(
     requires { ⌜ now t ≡ mixTable ⌝ }
     ensures { λ n. ⌜ columnsState n ≡ cipher (keptKey (now (keys .entry))) (wordsState c0 c1 c2 c3) ⌝ }
 {
-    let mut s = add_round_key(keys, 0, Columns { c0, c1, c2, c3 });
-    let mut r = 0;
-    while r < 9 {
-        r += 1;
-        s = add_round_key(keys, r, mix_columns(t, s));
+    let s = add_round_key(keys, 0, Columns { c0, c1, c2, c3 });
+    rounds_from(t, keys, 0, s.c0, s.c1, s.c2, s.c3)
+}
+
+// What the last column adds to the four columns of a round.
+fn last_column_part(t: &[u32; 256], w: u32) -> Columns
+    requires { ⌜ now t ≡ mixTable ⌝ }
+    ensures { λ n. ⌜ columnsState n ≡ lastColumnPart (numberWord w) ⌝ }
+{
+    Columns {
+        c0: rotate_right_24(mix_entry(t, w % 256)),
+        c1: rotate_right_16(mix_entry(t, w / 0x100 % 256)),
+        c2: rotate_right_8(mix_entry(t, w / 0x10000 % 256)),
+        c3: mix_entry(t, w / 0x1000000),
     }
-    add_round_key(keys, 10, shift_rows(t, s))
+}
+
+// The first round of a state, without its last column's part.
+pub(crate) fn shared_round(t: &[u32; 256], keys: &[u32; 44], x: Columns) -> Columns
+    requires { ⌜ now t ≡ mixTable ⌝ }
+    ensures { λ n. ⌜ columnsState n ≡ sharedRound (keptKey (now (keys .entry))) (columnsState x) ⌝ }
+{
+    let s = add_round_key(keys, 0, x);
+    let after = add_round_key(keys, 1, mix_columns(t, s));
+    add(after, last_column_part(t, s.c3))
+}
+
+// The state with this last column encrypted, from what it shares of the first round.
+pub(crate) fn encrypt_shared(t: &[u32; 256], keys: &[u32; 44], shared: Columns, c3: u32) -> Columns
+    requires { ⌜ now t ≡ mixTable ⌝ }
+    ensures { λ n. ⌜ ((s : State) → s .c3 ≡ numberWord c3 → columnsState shared ≡ sharedRound (keptKey (now (keys .entry))) s → columnsState n ≡ cipher (keptKey (now (keys .entry))) s) ⌝ }
+{
+    let x = add(shared, last_column_part(t, c3 ^ keys[3]));
+    rounds_from(t, keys, 1, x.c0, x.c1, x.c2, x.c3)
 }
 
 // A block under an expanded key, with the table lent.

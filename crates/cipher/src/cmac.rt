@@ -1,8 +1,8 @@
 // CMAC over AES-128 (SP 800-38B).
 use crate::aes;
 use crate::aes::Columns;
-use crate::num;
 use crate::tables;
+use buffers::numbers;
 use buffers::parts;
 ghost use mathlib.Core.Path.{_≡_};
 ghost use mathlib.Core.List.{_++_};
@@ -156,8 +156,8 @@ pub(crate) fn absorb(t: &[u32; 256], keys: &[u32; 44], from: Pending, data: &[u8
     ensures { λ r. ⌜ stateWith r (now (keys .entry)) ≡ fed (stateWith from (now (keys .entry))) (now («data» .entry)) ⌝ }
 {
     let block = from.block;
-    let p = num::least(from.count, 16);
-    let n = num::least(16 - p, data.len());
+    let p = numbers::least(from.count, 16);
+    let n = numbers::least(16 - p, data.len());
     let filled = add_bytes(block, p, &data[..n]);
     if n == data.len() {
         return Pending {
@@ -174,7 +174,7 @@ pub(crate) fn close(t: &[u32; 256], keys: &[u32; 44], zero: Columns, from: Pendi
     ensures { λ r. ⌜ r ≡ finished (stateWith from (now (keys .entry))) .block ⌝ }
 {
     let block = from.block;
-    let x = close_block(block, num::least(from.count, 16), zero);
+    let x = close_block(block, numbers::least(from.count, 16), zero);
     aes::store(aes::encrypt_words(t, keys, x.c0, x.c1, x.c2, x.c3))
 }
 

@@ -2,16 +2,16 @@
 
 use crate::aes;
 use crate::aes::Columns;
-use crate::num;
 use crate::tables;
 ghost use mathlib.Core.Path.{_≡_};
 ghost use mathlib.Core.List.{_++_};
-ghost use Prim.Native.Nat.{_+_, _≤_};
+ghost use Prim.Native.Nat.{_+_, _%_, _^_, _≤_};
 ghost use lib.ListN.{length, take, drop};
 ghost use Rattle.cipher.specs.Sbox.{sbox};
 ghost use Rattle.cipher.specs.Tables.{mixTable};
-ghost use Rattle.cipher.specs.Aes.{numberWord, wordAt, wordBytes, xorWord, stateOf, blockOf, encryptWith};
+ghost use Rattle.cipher.specs.Aes.{numberWord, wordAt, wordBytes, xorWord, stateOf, blockOf, keptKey, encryptWith};
 ghost use Rattle.cipher.specs.Columns.{columnsState};
+ghost use Rattle.cipher.specs.FirstRound.{sharedRound};
 ghost use Rattle.cipher.specs.Cmac.{xorBytes};
 ghost use Rattle.cipher.specs.Ctr.{counterBlock, ctrFrom, ctrAt, ctr};
 
@@ -60,32 +60,54 @@ fn add_front(part: &mut [u8], stream: [u8; 16])
     }
 }
 
-// A block of the key stream added to a block of the message, or its front to the last partial one.
-fn add_stream(part: &mut [u8], s: Columns)
-    requires { ⌜ length (now part) ≤ 16 ⌝ }
-    ensures { λ _. ⌜ now (part .exit) ≡ xorBytes (now (part .entry)) (blockOf (columnsState s)) ⌝ }
+// What the next counter block shares with those after it: the same, until the low word of the count starts again.
+fn next_shared(
+    t: &[u32; 256],
+    keys: &[u32; 44],
+    iv: [u8; 8],
+    count: u64,
+    shared: Columns,
+) -> Columns
+    requires { ⌜ (now t ≡ mixTable) × (columnsState shared ≡ sharedRound (keptKey (now keys)) (stateOf (counterBlock iv count))) ⌝ }
+    ensures { λ r. ⌜ columnsState r ≡ sharedRound (keptKey (now (keys .entry))) (stateOf (counterBlock iv ((count + 1) % 2 ^ 64))) ⌝ }
 {
-    if part.len() == 16 {
-        add_block(part, s);
-    } else {
-        add_front(part, aes::store(s));
+    let next = std::num::wrapping_add_u64(count, 1);
+    if next % 0x100000000 == 0 {
+        return aes::shared_round(t, keys, counter_columns(iv, next));
+    }
+    shared
+}
+
+// Whole blocks in place under an expanded key, the first one's count given.
+fn crypt_whole(t: &[u32; 256], keys: &[u32; 44], iv: [u8; 8], count: u64, buf: &mut [u8])
+    requires { ⌜ (now t ≡ mixTable) × (length (now buf) % 16 ≡ 0) ⌝ }
+    ensures { λ _. ⌜ now (buf .exit) ≡ ctrFrom (encryptWith (now (keys .entry))) iv count 0 (now (buf .entry)) ⌝ }
+{
+    let mut shared = aes::shared_round(t, keys, counter_columns(iv, count));
+    let mut counter = count;
+    let mut i: usize = 0;
+    while i < buf.len() {
+        let end = i + 16;
+        let s = aes::encrypt_shared(t, keys, shared, (counter % 0x100000000) as u32);
+        add_block(&mut buf[i..end], s);
+        shared = next_shared(t, keys, iv, counter, shared);
+        counter = std::num::wrapping_add_u64(counter, 1);
+        i = end;
     }
 }
 
-// A buffer encrypted or decrypted in place under an expanded key, the first block's count given.
+// A buffer encrypted or decrypted in place under an expanded key, the first block's count given: whole blocks, then the last partial one.
 fn crypt_blocks(t: &[u32; 256], keys: &[u32; 44], iv: [u8; 8], count: u64, buf: &mut [u8])
     requires { ⌜ now t ≡ mixTable ⌝ }
     ensures { λ _. ⌜ now (buf .exit) ≡ ctrFrom (encryptWith (now (keys .entry))) iv count 0 (now (buf .entry)) ⌝ }
 {
-    let mut blocks: u64 = 0;
-    let mut i: usize = 0;
-    while i < buf.len() {
-        let end = i + num::least(16, buf.len() - i);
-        let x = counter_columns(iv, std::num::wrapping_add_u64(count, blocks));
+    let n = buf.len();
+    let end = n / 16 * 16;
+    crypt_whole(t, keys, iv, count, &mut buf[..end]);
+    if end < n {
+        let x = counter_columns(iv, std::num::wrapping_add_u64(count, (n / 16) as u64));
         let s = aes::encrypt_words(t, keys, x.c0, x.c1, x.c2, x.c3);
-        add_stream(&mut buf[i..end], s);
-        blocks += 1;
-        i = end;
+        add_front(&mut buf[end..n], aes::store(s));
     }
 }
 

@@ -3,8 +3,8 @@
 use crate::aes;
 use crate::aes::Columns;
 use crate::cmac;
-use crate::num;
 use crate::tables;
+use buffers::numbers;
 use buffers::parts;
 ghost use mathlib.Core.Path.{_≡_};
 ghost use mathlib.Core.Bool.{cond};
@@ -16,7 +16,7 @@ ghost use Rattle.cipher.specs.Aes.{blockOf, expandKey, encryptWith};
 ghost use Rattle.cipher.specs.Columns.{columnsState};
 ghost use Rattle.cipher.specs.Cmac.{cmacOver};
 ghost use Rattle.cipher.specs.Kdf.{encPrefix, authPrefix, salt, labelled, kdf, derivedKey};
-ghost use Rattle.cipher.specs.Device.{prepared, bare, Ready};
+ghost use Rattle.cipher.specs.Device.{prepared, bare, CanDerive};
 
 // The prefixes of the two keys that each name has.
 const ENC: [u8; 3] = *b"ENC";
@@ -44,8 +44,8 @@ fn derive(t: &[u32; 256], keys: &[u32; 44], zero: Columns, prefix: &[u8], name: 
     requires { ⌜ (now t ≡ mixTable) × (blockOf (columnsState zero) ≡ encryptWith (now keys) (replicate 16 0)) ⌝ }
     ensures { λ r. ⌜ r ≡ cmacOver (encryptWith (now (keys .entry))) (labelled (salt (now (prefix .entry)) (now (name .entry)))) ⌝ }
 {
-    let p = num::least(prefix.len(), 32);
-    let n = num::least(name.len(), 32 - p);
+    let p = numbers::least(prefix.len(), 32);
+    let n = numbers::least(name.len(), 32 - p);
     let mut message = [0u8; 38];
     message[0] = 1;
     parts::paste(&mut message, 1, &prefix[..p]);
@@ -98,7 +98,7 @@ pub fn prepare_if(wanted: bool, mix: &[u32; 256], sub: &[u8; 256], key: [u8; 16]
     }
 }
 
-// A key derived from the device key, which was prepared.
+// A key derived from a device key's parts.
 fn derive_from(
     t: &[u32; 256],
     key: [u8; 16],
@@ -113,34 +113,29 @@ fn derive_from(
     derive(t, keys, aes::load(&zero), prefix, name)
 }
 
-// The key that a name's data is encrypted under.
-pub fn derive_encryption_key(
-    mix: &[u32; 256],
-    sub: &[u8; 256],
-    device: DeviceKey,
-    name: &[u8],
-) -> [u8; 16]
-    requires { ⌜ Ready (now mix) (now sub) device ⌝ }
-    ensures { λ r. ⌜ r ≡ derivedKey (device .key) encPrefix (now (name .entry)) ⌝ }
+// A key derived from the device key, which was prepared.
+fn derive_prepared(mix: &[u32; 256], device: DeviceKey, prefix: &[u8], name: &[u8]) -> [u8; 16]
+    requires { ⌜ CanDerive (now mix) device ⌝ }
+    ensures { λ r. ⌜ r ≡ derivedKey (device .key) (now (prefix .entry)) (now (name .entry)) ⌝ }
 {
     let key = device.key;
     let keys = device.keys;
     let zero = device.zero;
-    derive_from(mix, key, &keys, zero, &ENC, name)
+    derive_from(mix, key, &keys, zero, prefix, name)
+}
+
+// The key that a name's data is encrypted under.
+pub fn derive_encryption_key(mix: &[u32; 256], device: DeviceKey, name: &[u8]) -> [u8; 16]
+    requires { ⌜ CanDerive (now mix) device ⌝ }
+    ensures { λ r. ⌜ r ≡ derivedKey (device .key) encPrefix (now (name .entry)) ⌝ }
+{
+    derive_prepared(mix, device, &ENC, name)
 }
 
 // The key that a name's record is authenticated under.
-pub fn derive_authentication_key(
-    mix: &[u32; 256],
-    sub: &[u8; 256],
-    device: DeviceKey,
-    name: &[u8],
-) -> [u8; 16]
-    requires { ⌜ Ready (now mix) (now sub) device ⌝ }
+pub fn derive_authentication_key(mix: &[u32; 256], device: DeviceKey, name: &[u8]) -> [u8; 16]
+    requires { ⌜ CanDerive (now mix) device ⌝ }
     ensures { λ r. ⌜ r ≡ derivedKey (device .key) authPrefix (now (name .entry)) ⌝ }
 {
-    let key = device.key;
-    let keys = device.keys;
-    let zero = device.zero;
-    derive_from(mix, key, &keys, zero, &AUTH, name)
+    derive_prepared(mix, device, &AUTH, name)
 }

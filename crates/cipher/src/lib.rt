@@ -3,5 +3,4 @@ pub mod aes;
 pub mod cmac;
 pub mod ctr;
 pub mod kdf;
-mod num;
 pub mod tables;

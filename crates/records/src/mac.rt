@@ -22,7 +22,7 @@ pub(crate) fn record_cmac(
     requires { ⌜ Ready (now mix) (now sub) device ⌝ }
     ensures { λ r. ⌜ r ≡ cmacOver (device .key) (now (name .entry)) (now (covered .entry)) ⌝ }
 {
-    let key = cipher::kdf::derive_authentication_key(mix, sub, device, name);
+    let key = cipher::kdf::derive_authentication_key(mix, device, name);
     cipher::cmac::tag_parts(mix, sub, key, name, covered)
 }
 

@@ -52,7 +52,7 @@ fn copy_crypted(
 {
     bytes::copy(src, dst);
     if flags::require_confidentiality(flags) {
-        let key = cipher::kdf::derive_encryption_key(mix, sub, device, name);
+        let key = cipher::kdf::derive_encryption_key(mix, device, name);
         cipher::ctr::crypt(mix, sub, key, iv, dst);
     }
 }

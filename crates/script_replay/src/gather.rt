@@ -1,9 +1,9 @@
 // A line as it comes, read by read. As much of it is kept as fits, and the rest is passed over.
 use crate::step::LINE_LIMIT;
+use buffers::numbers;
 use buffers::parts;
 use text::parts::NEWLINE;
 ghost use mathlib.Core.Path.{_≡_};
-ghost use Prim.Native.Nat.{min};
 ghost use lib.ListN.{length, take};
 ghost use Rattle.buffers.specs.Bytes.{zeros};
 ghost use Rattle.script_replay.specs.Script.{atFront};
@@ -25,12 +25,6 @@ pub fn held_buffer() -> [u8; HELD_SIZE]
     [0; HELD_SIZE]
 }
 
-fn least(a: usize, b: usize) -> usize
-    ensures { λ r. ⌜ r ≡ min a b ⌝ }
-{
-    if a < b { a } else { b }
-}
-
 // Takes a read's bytes up to the first newline, behind the first len that are held; the newline is taken, and not held.
 pub fn gather(part: &[u8], len: usize, line: &mut [u8]) -> Gathered
     ensures { λ r. ⌜ r ≡ record { len = length (held (length (now (line .entry))) (take len (now (line .entry))) (now (part .entry))); taken = Stream·taken (now (part .entry)); whole = endsLine (now (part .entry)) } ⌝ }
@@ -38,7 +32,7 @@ pub fn gather(part: &[u8], len: usize, line: &mut [u8]) -> Gathered
 {
     let end = bytes::scan::find(part, 0, part.len(), NEWLINE);
     let size = line.len();
-    let at = least(len, size);
+    let at = numbers::least(len, size);
     let n = parts::copy_fitting(&part[0..end], &mut line[at..size]);
     if end < part.len() {
         return Gathered {

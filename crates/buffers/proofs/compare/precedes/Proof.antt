@@ -15,20 +15,20 @@ Inv-loop a b n i₀ i = (n ≡ min (length a) (length b)) × (i ≤ n) × (prece
 abbrev μ-loop : tie.MeasureT-loop
 μ-loop a b n i₀ i = n - i
 
-shorter-requires : tie.Need-shorter-requires Inv-loop μ-loop
-shorter-requires c κs = search needs
+least-requires : tie.Need-least-requires Inv-loop μ-loop
+least-requires c κs = search needs
 
 loop-holds : tie.Need-loop-holds Inv-loop μ-loop
-loop-holds c = (c .shorter .ensures, omega arith, refl)
+loop-holds c = (c .least .ensures, omega arith, refl)
 
 add-loop : tie.Need-add-loop Inv-loop μ-loop
 add-loop c = search needs
 
-be32-requires : tie.Need-be32-requires Inv-loop μ-loop
-be32-requires c κs = search needs
+be32-at-requires : tie.Need-be32-at-requires Inv-loop μ-loop
+be32-at-requires c κs = search needs
 
-be32-requires-2 : tie.Need-be32-requires-2 Inv-loop μ-loop
-be32-requires-2 c κs = search needs
+be32-at-requires-2 : tie.Need-be32-at-requires-2 Inv-loop μ-loop
+be32-at-requires-2 c κs = search needs
 
 returns : tie.Need-returns Inv-loop μ-loop
 returns c =
@@ -37,8 +37,8 @@ returns c =
     let args = known .before .before .args in
     let fa = known .before .shared-slice-known .given in
     let fb = known .shared-slice-known2 .given in
-    let x = c .before .before .be32 in
-    let y = c .before .be322 in
+    let x = c .before .before .be32-at in
+    let y = c .before .be32-at2 in
     sym (four-differ (args .a .now) (args .b .now) (l .i) (λ j. fa j .fits) (λ j. fb j .fits) (x .result) (y .result) (omega arith) (omega arith)
     (x .ensures) (y .ensures) (c .if1 .taken)) ∙ l .inv .2
 
@@ -55,8 +55,8 @@ loop-again c =
     let args = known .before .before .args in
     let fa = known .before .shared-slice-known .given in
     let fb = known .shared-slice-known2 .given in
-    let x = c .before .before .be32 in
-    let y = c .before .be322 in
+    let x = c .before .before .be32-at in
+    let y = c .before .be32-at2 in
     let same = four-same (args .a .now) (args .b .now) (l .i) (λ j. fa j .fits) (λ j. fb j .fits) (x .result) (y .result) (omega arith) (omega arith)
     (x .ensures) (y .ensures) (c .if1 .left) in
     (l .inv .0, omega arith, same ∙ l .inv .2)
@@ -73,11 +73,11 @@ precedes-spec =
     (tie.spec
     Inv-loop
     μ-loop
-    shorter-requires
+    least-requires
     loop-holds
     add-loop
-    be32-requires
-    be32-requires-2
+    be32-at-requires
+    be32-at-requires-2
     returns
     add-i
     loop-less

@@ -16,11 +16,11 @@ Inv-loop a b start n i₀ i = (n ≡ min (length a) (length b)) × (i ≤ n) × 
 abbrev μ-loop : tie.MeasureT-loop
 μ-loop a b start n i₀ i = n - i
 
-shorter-requires : tie.Need-shorter-requires Inv-loop μ-loop
-shorter-requires c κs = search needs
+least-requires : tie.Need-least-requires Inv-loop μ-loop
+least-requires c κs = search needs
 
 loop-holds : tie.Need-loop-holds Inv-loop μ-loop
-loop-holds c = (c .shorter .ensures, omega arith, refl)
+loop-holds c = (c .least .ensures, omega arith, refl)
 
 shared-slice-read-if1 : tie.Need-shared-slice-read-if1 Inv-loop μ-loop
 shared-slice-read-if1 c = search needs
@@ -65,7 +65,7 @@ precedes-from-spec =
     (tie.spec
     Inv-loop
     μ-loop
-    shorter-requires
+    least-requires
     loop-holds
     shared-slice-read-if1
     shared-slice-read-if1-2

@@ -1,74 +1,19 @@
--- `cipher::aes::encrypt_words`. The invariant: `s` is the state after r rounds.
-use mathlib.Core.Path.{_≡_, ap, _∙_}
-use Prim.Native.Nat.{_≤_, _-_}
-use native.Mathlib.Numerals.{add-one}
-use native.Mathlib.Omega.{arith}
+-- `cipher::aes::encrypt_words`: no round is done before the first key is added.
 use borrow.Author.Needs.{needs}
-use Rattle.cipher.specs.Aes.{State, afterRounds, mixColumns, shiftRows, subBytes, keptKey, addRoundKey, cipher}
+use Rattle.cipher.specs.Aes.{afterRounds}
 use Rattle.cipher.specs.Columns.{columnsState, wordsState}
 use Rattle.cipher.proofs.aes.encrypt_words.Statement.{statement}
 use Rattle.cipher.proofs.aes.encrypt_words.Tie as tie
 
-abbrev Inv-loop : tie.InvT-loop
-Inv-loop t keys c0 c1 c2 c3 s₀ r₀ s r = (r ≤ 9) × (columnsState s ≡ afterRounds (keptKey keys) r (wordsState c0 c1 c2 c3))
-
-abbrev μ-loop : tie.MeasureT-loop
-μ-loop t keys c0 c1 c2 c3 s₀ r₀ s r = 9 - r
-
-add-round-key-requires : tie.Need-add-round-key-requires Inv-loop μ-loop
+add-round-key-requires : tie.Need-add-round-key-requires
 add-round-key-requires c κs = search needs
 
-loop-holds : tie.Need-loop-holds Inv-loop μ-loop
+rounds-from-requires : tie.Need-rounds-from-requires
+rounds-from-requires c κs = search needs
+
+returns : tie.Need-returns
 unfolding afterRounds columnsState wordsState
-loop-holds c = (search needs, c .add-round-key .ensures)
-
-add-r : tie.Need-add-r Inv-loop μ-loop
-add-r c = search needs
-
-mix-columns-requires : tie.Need-mix-columns-requires Inv-loop μ-loop
-mix-columns-requires c κs = search needs
-
-add-round-key-requires-2 : tie.Need-add-round-key-requires-2 Inv-loop μ-loop
-add-round-key-requires-2 c κs = search needs
-
-loop-less : tie.Need-loop-less Inv-loop μ-loop
-loop-less c = search needs
-
-loop-again : tie.Need-loop-again Inv-loop μ-loop
-unfolding afterRounds
-loop-again c =
-    let mixed = c .before in
-    let l = mixed .before .before .loop in
-    let same = mixed .mix-columns .ensures ∙ ap (λ (t : State). mixColumns (shiftRows (subBytes t))) (l .inv .1) in
-    (search needs, rw add-one (rw add-one at (c .add-round-key2 .ensures) ∙ ap (addRoundKey _) same))
-
-shift-rows-requires : tie.Need-shift-rows-requires Inv-loop μ-loop
-shift-rows-requires c κs = search needs
-
-add-round-key-requires-3 : tie.Need-add-round-key-requires-3 Inv-loop μ-loop
-add-round-key-requires-3 c κs = search needs
-
-returns : tie.Need-returns Inv-loop μ-loop
-unfolding cipher
-returns c =
-    let l = c .before .before .before .loop in
-    let nine : l .r ≡ 9 = omega arith in
-    c .add-round-key3 .ensures
-    ∙ ap (addRoundKey _) (c .before .shift-rows .ensures ∙ ap (λ (t : State). shiftRows (subBytes t)) (rw nine at (l .inv .1)))
+returns c = c .rounds-from .ensures _ (c .before .add-round-key .ensures)
 
 pub encrypt-words-spec : {M : Type 1} → statement M
-encrypt-words-spec =
-    tie.close
-    (tie.spec
-    Inv-loop
-    μ-loop
-    add-round-key-requires
-    loop-holds
-    add-r
-    mix-columns-requires
-    add-round-key-requires-2
-    loop-less
-    loop-again
-    shift-rows-requires
-    add-round-key-requires-3
-    returns)
+encrypt-words-spec = tie.close (tie.spec add-round-key-requires rounds-from-requires returns)

@@ -1,9 +1,11 @@
 -- `cipher::ctr::counter_columns`: the words of the IV, then those of the count.
+use mathlib.Core.Path.{refl, sym, _∙_}
 use mir.Syntax.{w8}
 use borrow.Kind.Array.{eInt, good-length}
 use borrow.Author.Needs.{needs}
-use Rattle.cipher.specs.Columns.{columnsState, wordsState}
-use Rattle.cipher.proofs.Stream.{counter-state}
+use Rattle.cipher.specs.Columns.{columnsState}
+use Rattle.cipher.proofs.Words.{state-ext}
+use Rattle.cipher.proofs.Stream.{counter-words}
 use Rattle.cipher.proofs.ctr.counter_columns.Statement.{statement}
 use Rattle.cipher.proofs.ctr.counter_columns.Tie as tie
 
@@ -26,12 +28,12 @@ cast-t13 : tie.Need-cast-t13
 cast-t13 c = search needs
 
 returns : tie.Need-returns
-unfolding columnsState wordsState
+unfolding columnsState
 returns c =
     let first = c .before .before in
     let start = first .before .before in
     let sized = good-length (eInt w8) 8 (start .args .t1) _ (start .good .0) in
-    counter-state (start .args .t1) (start .args .count) _ _ sized (first .word-at .ensures) (c .word-at2 .ensures)
+    state-ext (first .word-at .ensures) (c .word-at2 .ensures) refl refl ∙ sym (counter-words (start .args .t1) (start .args .count) sized)
 
 pub counter-columns-spec : {M : Type 1} → statement M
 counter-columns-spec =

@@ -21,7 +21,8 @@ derive-encryption-key-requires : tie.Need-derive-encryption-key-requires
 derive-encryption-key-requires c κs =
     let require-confidentiality = c .before .require-confidentiality in
     let start = c .before .before .before .before .before .before .before .before .before in
-    start .pre .1 (confidential-needs (start .args .flags) (sym (require-confidentiality .ensures) ∙ c .if1 .taken))
+    let ready = start .pre .1 (confidential-needs (start .args .flags) (sym (require-confidentiality .ensures) ∙ c .if1 .taken)) in
+    (ready .0, ready .2)
 
 crypt-requires : tie.Need-crypt-requires
 crypt-requires c κs =
