@@ -32,12 +32,15 @@ const NOT_EXPORTED: [&str; 5] = [
     "parts at every division",
 ];
 
-/// Counter mode from any counter block, by the encryption of each.
+/// Counter mode from any counter block, by the encryption of each. The count is its
+/// second half, and starts again at 2^64.
 fn counted(library: &dyn Library, key: &Block, first: Block, input: &[u8]) -> Seen<Vec<u8>> {
     let mut made = Vec::new();
-    for (i, text) in input.chunks(BLOCK).enumerate() {
-        let counter = u128::from_be_bytes(first) + i as u128;
-        let mask = library.aes(key, &counter.to_be_bytes())?;
+    let (iv, start) = first.split_at(BLOCK / 2);
+    let mut count = start.iter().fold(0, |n: u64, &b| n << 8 | u64::from(b));
+    for text in input.chunks(BLOCK) {
+        let mask = library.aes(key, &block(&[iv, &count.to_be_bytes()].concat())?)?;
+        count = count.wrapping_add(1);
         made.extend(text.iter().zip(mask).map(|(a, b)| a ^ b));
     }
     Ok(made)

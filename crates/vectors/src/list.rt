@@ -72,14 +72,17 @@ fn is_labelled(entry: &[u8], line: &[u8], index: usize) -> bool {
         )
 }
 
+fn is_origin(word: &[u8]) -> bool {
+    same(word, b"published") || same(word, b"recalled") || same(word, b"computed")
+}
+
 // Whether a line has as many fields as listed, of which the last says where its values come from.
 fn has_fields(entry: &[u8], line: &[u8]) -> bool {
     let count = field_count(line);
     if count < 1 {
         return false;
     }
-    let origin = field(line, count - 1);
-    is_number(field(entry, 3), count) && (same(origin, b"published") || same(origin, b"recalled"))
+    is_number(field(entry, 3), count) && is_origin(field(line, count - 1))
 }
 
 // Whether a CMAC's line states the sizes of message and tag: bits and a whole tag, or bytes and as many bytes of the tag as are kept.

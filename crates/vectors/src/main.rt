@@ -1,4 +1,4 @@
-// Runs the published vectors of data/ through the crate cipher, as data/trials.tsv lists them. Writes for each entry of the list how many
+// Runs the vectors of data/ through the crate cipher, as data/trials.tsv lists them. Writes for each entry of the list how many
 // trials gave what is expected, of how many, and before that each line that differs; the last line is the verdict.
 mod counter;
 mod fields;
