@@ -185,21 +185,30 @@ static const size_t SIZES[] = {1, 2, 4, 8, 16, 32, 64};
 struct box {
     const struct store *store;
     size_t slots;
+    uint32_t flags;
     uint8_t *kv, *rbp;
 };
 
+/* A number behind the text, digit by digit, since sprintf takes as long as the tests on one slot. */
+static void numbered(const char *text, size_t i, uint8_t name[16])
+{
+    uint8_t *digit = name + 16;
+    memcpy(name, text, 16);
+    for (; 0 < i; i /= 10) {
+        *--digit = (uint8_t)('0' + i % 10);
+    }
+}
+
 static void name_of(size_t i, uint8_t name[16])
 {
-    char text[17];
-    sprintf(text, "player/%09u", (unsigned)i);
-    memcpy(name, text, 16);
+    numbered("player/000000000", i, name);
 }
 
 static uint32_t set_in(const struct box *b, size_t i)
 {
     uint8_t name[16];
     name_of(i, name);
-    return b->store->set(b->kv, b->slots * 584, b->rbp, b->slots * 82, KEY, 16, name, 16, 14, IV, 8, data, sizeof data);
+    return b->store->set(b->kv, b->slots * 584, b->rbp, b->slots * 82, KEY, 16, name, 16, b->flags, IV, 8, data, sizeof data);
 }
 
 static uint32_t get_in(const struct box *b, size_t i, uint8_t *output, size_t *count)
@@ -236,22 +245,29 @@ static struct box empty(const struct store *store, size_t slots)
     struct box b;
     b.store = store;
     b.slots = slots;
+    b.flags = 14;
     b.kv = (uint8_t *)calloc(slots, 584);
     b.rbp = (uint8_t *)calloc(slots, 82);
     must(b.kv != NULL && b.rbp != NULL, "memory", store->name);
     return b;
 }
 
-static struct box fill(const struct store *store, size_t slots)
+static struct box fill_with(const struct store *store, size_t slots, uint32_t flags)
 {
     struct box b = empty(store, slots);
     size_t i, count;
     uint8_t output[480];
+    b.flags = flags;
     for (i = 0; i < slots; i++) {
         must(set_in(&b, i) == 0, "set", store->name);
         must(get_in(&b, i, output, &count) == 0 && count == 480 && memcmp(output, data, 480) == 0, "get", store->name);
     }
     return b;
+}
+
+static struct box fill(const struct store *store, size_t slots)
+{
+    return fill_with(store, slots, 14);
 }
 
 /* Two boxes hold the same bytes. */
@@ -425,6 +441,72 @@ static void parts(void)
     printf("| beside it: testing 64 free slots of each | %.2f | %.2f |\n\n", all[4 + PLAIN].best * 1e6, all[4 + OURS].best * 1e6);
 }
 
+/* ---- where the time of a get on one slot goes, and what a record costs that no cipher touches */
+
+/* What the CMAC of a record is over: a name of 16 bytes, 20 of metadata, 480 of data. */
+static void work_cmac_516(const void *of)
+{
+    static const uint8_t message[516];
+    uint8_t tag[16];
+    ((const struct peer *)of)->cmac(KEY, message, sizeof message, tag);
+}
+
+/* A box with one record under all flags, one with a record under none, and the ciphers that a call has. */
+struct one_slot {
+    struct box sealed, bare;
+    const struct peer *ciphers;
+};
+
+static struct one_slot one_slot_of(const struct store *store, const struct peer *ciphers)
+{
+    struct one_slot s;
+    uint8_t output[480];
+    size_t count;
+    s.sealed = fill(store, 1);
+    s.bare = fill_with(store, 1, 0);
+    s.ciphers = ciphers;
+    must(get_in(&s.sealed, 64, output, &count) == 6, "get of an absent name", store->name);
+    return s;
+}
+
+static void one_slot(void)
+{
+    static const struct {
+        const char *name;
+        void (*work)(const void *of);
+    } rows[] = {
+        {"get of 480 bytes", work_get},
+        {"get of a name that is not there: tests and look-up", work_absent},
+        {"a derivation, called by itself", work_derive},
+        {"CMAC of 516 bytes, called by itself", work_cmac_516},
+        {"counter mode on 480 bytes, called by itself", work_ctr},
+        {"beside it: get of 480 bytes, flags 0", work_get},
+        {"set of 480 bytes, flags 0", work_set},
+    };
+    enum { ROWS = sizeof rows / sizeof rows[0] };
+    static struct one_slot both[2];
+    struct measure all[2 * ROWS];
+    size_t i, j;
+    both[PLAIN] = one_slot_of(&STORES[PLAIN], &PEERS[PEER_PLAIN]);
+    both[OURS] = one_slot_of(&STORES[OURS], &PEERS[PEER_OURS]);
+    must_agree(&both[OURS].sealed, &both[PLAIN].sealed);
+    must_agree(&both[OURS].bare, &both[PLAIN].bare);
+    for (i = PLAIN; i <= OURS; i++) {
+        const struct one_slot *s = &both[i];
+        const void *const of[ROWS] = {&s->sealed, &s->sealed, s->ciphers, s->ciphers, s->ciphers, &s->bare, &s->bare};
+        for (j = 0; j < ROWS; j++) {
+            all[2 * j + i].work = rows[j].work;
+            all[2 * j + i].of = of[j];
+        }
+    }
+    run(all, 2 * ROWS, 2000);
+    printf("| on one slot, nanoseconds | plain C | securestore |\n|---|---|---|\n");
+    for (j = 0; j < ROWS; j++) {
+        printf("| %s | %.0f | %.0f |\n", rows[j].name, all[2 * j + PLAIN].best * 1e9, all[2 * j + OURS].best * 1e9);
+    }
+    printf("\n");
+}
+
 /* ---- mixes: no peer has them, so they stand beside a get of one of them */
 
 static const size_t MIXES[] = {1, 16, 64};
@@ -432,9 +514,7 @@ static const size_t MIXES[] = {1, 16, 64};
 
 static void mix_name(size_t i, uint8_t name[16])
 {
-    char text[17];
-    sprintf(text, "mix/%012u", (unsigned)i);
-    memcpy(name, text, 16);
+    numbered("mix/000000000000", i, name);
 }
 
 /* A mix of 16 sends, with level and pan; its session number is i. */
@@ -524,6 +604,7 @@ int main(void)
     growth();
     front();
     parts();
+    one_slot();
     mixes();
     return 0;
 }

@@ -228,9 +228,9 @@ static void openssl_ctr(const uint8_t key[16], const uint8_t iv[8], uint8_t *dat
 }
 
 const struct peer PEERS[] = {
-    {"Mbed TLS, AES-NI off", mbed_block, mbed_cmac, mbed_ctr, 0},
-    {"**securestore**", securestore_aes128_encrypt, securestore_cmac, securestore_ctr, securestore_derive},
-    {"plain C of the same shape", plain_block, plain_cmac, plain_ctr, plain_derive},
+    [PEER_FIRST] = {"Mbed TLS, AES-NI off", mbed_block, mbed_cmac, mbed_ctr, 0},
+    [PEER_OURS] = {"**securestore**", securestore_aes128_encrypt, securestore_cmac, securestore_ctr, securestore_derive},
+    [PEER_PLAIN] = {"plain C of the same tables", plain_block, plain_cmac, plain_ctr, plain_derive},
     {"libtomcrypt", tom_block, tom_cmac, tom_ctr, 0},
     {"BearSSL big", bear_big_block, bear_big_cmac, bear_big_ctr, 0},
     {"BearSSL small", bear_small_block, bear_small_cmac, bear_small_ctr, 0},

@@ -14,7 +14,8 @@ struct peer {
     void (*derive)(const uint8_t key[16], const uint8_t *prefix, size_t prefix_len, const uint8_t *name, size_t name_len, uint8_t out[16]);
 };
 
-/* The first is what the others are divided by. */
+/* The first is what the others are divided by; the next two have a store as well. */
+enum { PEER_FIRST, PEER_OURS, PEER_PLAIN };
 extern const struct peer PEERS[];
 extern const size_t PEER_COUNT;
 
