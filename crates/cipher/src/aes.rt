@@ -328,7 +328,7 @@ pub(crate) fn shared_round(t: &[u32; 256], keys: &[u32; 44], x: Columns) -> Colu
     add(after, last_column_part(t, s.c3))
 }
 
-// The state with this last column encrypted, from what it shares of the first round.
+// The encryption of the state that has this last column, from what it shares of the first round.
 pub(crate) fn encrypt_shared(t: &[u32; 256], keys: &[u32; 44], shared: Columns, c3: u32) -> Columns
     requires { ⌜ now t ≡ mixTable ⌝ }
     ensures { λ n. ⌜ ((s : State) → s .c3 ≡ numberWord c3 → columnsState shared ≡ sharedRound (keptKey (now (keys .entry))) s → columnsState n ≡ cipher (keptKey (now (keys .entry))) s) ⌝ }

@@ -5,7 +5,7 @@ use mathlib.Core.Bool.{true, false, not}
 use mathlib.Core.List.{List, [], _∷_}
 use Prim.Native.Nat.{ℕ, _-_, _≤_, _<_}
 use native.Mathlib.Omega.{arith}
-use borrow.Author.Tests.{ne-eqb}
+use borrow.Author.Tests.{ne-eqb, eqb-true}
 use lib.ListN.{length, getD}
 use Rattle.spec.specs.Status.{ok, refuseIf, _when_, firstOf, onOk, Answer, bytesGiven}
 use Rattle.spec.specs.Name.{validName}
@@ -15,9 +15,9 @@ use Rattle.spec.specs.Calls.{areas, slotHasPrefix}
 use Rattle.spec.specs.Demand2.{Undamaged}
 use Rattle.spec.proofs.Slot.{used-slot}
 use Rattle.spec.proofs.Status.{passes}
-use Rattle.spec.proofs.World.{accepted}
+use Rattle.spec.proofs.World.{Accepted, accepted}
 use Rattle.store.specs.Parts.{areaTests, getEarly}
-use Rattle.buffers.proofs.Split.{clash}
+use Rattle.buffers.proofs.Split.{clash, not-false-is}
 use Rattle.mix.specs.Mix.{sessionAt, mixValid}
 use Rattle.mix.specs.Calls.{mixPrefix, mixRecord, mixData}
 use Rattle.mix.specs.Search.{tryRecord}
@@ -61,8 +61,14 @@ prefixed-used kv i g l h = go (slot-of (getD (slots kvFormat kv) i []))
 
 -- card, chip and device key have passed, so that a get of a name in use has no more to ask before it looks it up
 module _ (kv rbp key : List ℕ) (g : firstOf (areaTests kv rbp (keySized key)) ≡ ok) where
+  passed : Accepted (areas kv rbp) ((1 when not (keySized key)) ∷ []) []
+  passed = accepted (areas kv rbp) ((1 when not (keySized key)) ∷ []) [] refl g
+
   pub sane : Undamaged kv rbp
-  sane = accepted (areas kv rbp) ((1 when not (keySized key)) ∷ []) [] refl g .undamaged
+  sane = passed .undamaged
+
+  pub key-sized : length key ≡ 16
+  key-sized = eqb-true (length key) 16 (not-false-is _ (passed .lengths .0))
 
   pub name-early : (i : ℕ) (name : List ℕ) → name ≡ slotName kvFormat (getD (slots kvFormat kv) i [])
       → slotUsed kvFormat (getD (slots kvFormat kv) i []) ≡ true → firstOf (getEarly kv rbp key name) ≡ ok

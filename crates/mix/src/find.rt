@@ -4,6 +4,10 @@ use crate::monitor;
 use crate::monitor::MixAnswer;
 use crate::persist;
 use crate::session;
+use buffers::parts;
+use cipher::kdf;
+use cipher::kdf::DeviceKey;
+use cipher::tables;
 use slots::AreaKind;
 use slots::areas;
 use store::answers::Got;
@@ -13,6 +17,8 @@ use store::status;
 ghost use mathlib.Core.Path.{_≡_};
 ghost use mathlib.Core.List.{[], _∷_};
 ghost use Prim.Native.Nat.{_≤_, _<_};
+ghost use lib.ListN.{length};
+ghost use Rattle.cipher.specs.Device.{Ready};
 ghost use Rattle.spec.specs.Status.{ok, firstOf};
 ghost use Rattle.spec.specs.Area.{kvFormat, slotCount, slots};
 ghost use Rattle.spec.specs.Decisions.{keySized};
@@ -34,12 +40,20 @@ pub struct Search {
     pub at: usize,
 }
 
-fn try_record(kv: &[u8], rbp: &[u8], device_key: &[u8], name: &[u8]) -> Tried
-    requires { ⌜ firstOf (getEarly (now kv) (now rbp) (now «device_key») (now name)) ≡ ok ⌝ }
-    ensures { λ r. ⌜ r ≡ tryRecord (now (kv .entry)) (now (rbp .entry)) (now («device_key» .entry)) (now (name .entry)) ⌝ }
+fn try_record(
+    mix: &[u32; 256],
+    sub: &[u8; 256],
+    device: DeviceKey,
+    kv: &[u8],
+    rbp: &[u8],
+    name: &[u8],
+) -> Tried
+    requires { ⌜ firstOf (getEarly (now kv) (now rbp) (device .key) (now name)) ≡ ok ⌝ }
+    requires { ⌜ Ready (now mix) (now sub) device ⌝ }
+    ensures { λ r. ⌜ r ≡ tryRecord (now (kv .entry)) (now (rbp .entry)) (device .key) (now (name .entry)) ⌝ }
 {
     let mut data = [0u8; 480];
-    let got = get::get_held(kv, rbp, device_key, name, 0, &mut data);
+    let got = get::get_prepared(mix, sub, device, kv, rbp, name, 0, &mut data);
     if got.status != status::OK {
         return Tried {
             status: got.status,
@@ -88,15 +102,18 @@ fn advance(s: Search, tried: Tried, session_id: u64, i: usize) -> Search
 }
 
 fn try_slot(
+    mix: &[u32; 256],
+    sub: &[u8; 256],
+    device: DeviceKey,
     kv: &[u8],
     rbp: &[u8],
-    device_key: &[u8],
     session_id: u64,
     i: usize,
     s: Search,
 ) -> Search
-    requires { ⌜ (firstOf (areaTests (now kv) (now rbp) (keySized (now «device_key»))) ≡ ok) × (i < slotCount kvFormat (now kv)) × (s .matches ≤ i) ⌝ }
-    ensures { λ r. ⌜ r ≡ trySlot (now (kv .entry)) (now (rbp .entry)) (now («device_key» .entry)) «session_id» i (slotAt kvFormat (now (kv .entry)) i) s ⌝ }
+    requires { ⌜ (firstOf (areaTests (now kv) (now rbp) (keySized (device .key))) ≡ ok) × (i < slotCount kvFormat (now kv)) × (s .matches ≤ i) ⌝ }
+    requires { ⌜ Ready (now mix) (now sub) device ⌝ }
+    ensures { λ r. ⌜ r ≡ trySlot (now (kv .entry)) (now (rbp .entry)) (device .key) «session_id» i (slotAt kvFormat (now (kv .entry)) i) s ⌝ }
 {
     if s.status != status::OK {
         return s;
@@ -106,13 +123,21 @@ fn try_slot(
         return s;
     }
     let name = areas::name_at(AreaKind::Kv, kv, i);
-    let tried = try_record(kv, rbp, device_key, name);
+    let tried = try_record(mix, sub, device, kv, rbp, name);
     advance(s, tried, session_id, i)
 }
 
-fn search_slots(kv: &[u8], rbp: &[u8], device_key: &[u8], session_id: u64) -> Search
-    requires { ⌜ firstOf (areaTests (now kv) (now rbp) (keySized (now «device_key»))) ≡ ok ⌝ }
-    ensures { λ r. ⌜ r ≡ scan (now (kv .entry)) (now (rbp .entry)) (now («device_key» .entry)) «session_id» 0 (slots kvFormat (now (kv .entry))) begun ⌝ }
+fn search_slots(
+    mix: &[u32; 256],
+    sub: &[u8; 256],
+    device: DeviceKey,
+    kv: &[u8],
+    rbp: &[u8],
+    session_id: u64,
+) -> Search
+    requires { ⌜ firstOf (areaTests (now kv) (now rbp) (keySized (device .key))) ≡ ok ⌝ }
+    requires { ⌜ Ready (now mix) (now sub) device ⌝ }
+    ensures { λ r. ⌜ r ≡ scan (now (kv .entry)) (now (rbp .entry)) (device .key) «session_id» 0 (slots kvFormat (now (kv .entry))) begun ⌝ }
 {
     let k = areas::slot_count(AreaKind::Kv, kv);
     let mut s = Search {
@@ -122,7 +147,7 @@ fn search_slots(kv: &[u8], rbp: &[u8], device_key: &[u8], session_id: u64) -> Se
     };
     let mut i = 0;
     while i < k {
-        s = try_slot(kv, rbp, device_key, session_id, i, s);
+        s = try_slot(mix, sub, device, kv, rbp, session_id, i, s);
         i += 1;
     }
     s
@@ -144,7 +169,30 @@ fn search_status(s: Search) -> u32
     status::OK
 }
 
-// The bytes of the one record that holds the session, at the front of a buffer.
+// The search, then the bytes of the one record that holds the session, at the front of a buffer.
+fn find_prepared(
+    mix: &[u32; 256],
+    sub: &[u8; 256],
+    device: DeviceKey,
+    kv: &[u8],
+    rbp: &[u8],
+    session_id: u64,
+    mix_buf: &mut [u8],
+) -> Got
+    requires { ⌜ (firstOf (areaTests (now kv) (now rbp) (keySized (device .key))) ≡ ok) × (153 ≤ length (now «mix_buf»)) ⌝ }
+    requires { ⌜ Ready (now mix) (now sub) device ⌝ }
+    ensures { λ r. ⌜ record { status = r .status; numbers = r .count ∷ []; output = now («mix_buf» .exit) } ≡ findEncodedMix (now (kv .entry)) (now (rbp .entry)) (device .key) «session_id» (now («mix_buf» .entry)) ⌝ }
+{
+    let s = search_slots(mix, sub, device, kv, rbp, session_id);
+    let status = search_status(s);
+    if status != status::OK {
+        return codec::refused(status);
+    }
+    let name = areas::name_at(AreaKind::Kv, kv, s.at);
+    get::get_prepared(mix, sub, device, kv, rbp, name, 0, mix_buf)
+}
+
+// Tables and device key are prepared once for all records.
 pub fn find_encoded_mix(
     kv: &[u8],
     rbp: &[u8],
@@ -161,13 +209,10 @@ pub fn find_encoded_mix(
     if early != status::OK {
         return codec::refused(early);
     }
-    let s = search_slots(kv, rbp, device_key, session_id);
-    let status = search_status(s);
-    if status != status::OK {
-        return codec::refused(status);
-    }
-    let name = areas::name_at(AreaKind::Kv, kv, s.at);
-    get::get_held(kv, rbp, device_key, name, 0, mix_buf)
+    let mix = tables::mix_table();
+    let sub = tables::sbox_table();
+    let device = kdf::prepare(&mix, &sub, parts::array16(device_key));
+    find_prepared(&mix, &sub, device, kv, rbp, session_id, mix_buf)
 }
 
 pub fn find_mix_by_session(kv: &[u8], rbp: &[u8], device_key: &[u8], session_id: u64) -> MixAnswer

@@ -60,6 +60,10 @@ module _ (key name : List ℕ) (offset : ℕ) (r : List ℕ) (tag : Option (List
           output = (b ∙ sym (status.on-ok verdict (readOutput key name offset output r) output k)) i;
         }
 
+-- a status that is known, written out
+pub found-ok : (l r : Judged) → l .status ≡ ok → l ≡ r → record { status = ok; found = l .found; entry = l .entry } ≡ r
+found-ok l r z e = ap (λ (n : ℕ). record { status = n; found = l .found; entry = l .entry }) (sym z) ∙ e
+
 module _ (kv rbp key name : List ℕ) where
   abbrev first : List Test
   first = getEarly kv rbp key name

@@ -15,6 +15,7 @@ use records::open;
 use records::record;
 use slots::AreaKind;
 use slots::areas;
+use slots::areas::Found;
 use slots::names;
 ghost use mathlib.Core.Path.{_≡_};
 ghost use mathlib.Core.Bool.{true};
@@ -23,11 +24,14 @@ ghost use Prim.Native.Nat.{_≤_};
 ghost use lib.ListN.{length};
 ghost use Rattle.cipher.specs.Sbox.{sbox};
 ghost use Rattle.cipher.specs.Tables.{mixTable};
+ghost use Rattle.cipher.specs.Device.{Ready};
 ghost use Rattle.spec.specs.Record.{requireReplayProtection, wellFormed, dataSizeOf, flagsOf};
 ghost use Rattle.spec.specs.Status.{ok, firstOf};
 ghost use Rattle.spec.specs.Decisions.{getHeld, readCount, readOutput};
 ghost use Rattle.spec.specs.Calls.{bindingOf, storeGet, storeGetInfo};
 ghost use Rattle.spec.specs.Demand2.{Undamaged};
+ghost use Rattle.spec.specs.Area.{kvFormat};
+ghost use Rattle.slots.specs.Found.{payloadAt};
 ghost use Rattle.records.specs.Parts.{ReadyFor};
 ghost use Rattle.store.specs.Parts.{getEarly, given, authentic, fresh, offsetTests, keylessTests, keyedTests, judged, lookedUp, gotOf};
 
@@ -235,8 +239,77 @@ fn get_record(
     Got { status, count }
 }
 
-// A get once 1 to 3 have passed, for who reads many names of one card.
-pub fn get_held(
+// A get of a name that was looked up, its record well formed.
+fn get_found(
+    mix: &[u32; 256],
+    sub: &[u8; 256],
+    device: DeviceKey,
+    kv: &[u8],
+    rbp: &[u8],
+    name: &[u8],
+    offset: usize,
+    found: Found,
+    entry: Found,
+    output: &mut [u8],
+) -> Got
+    requires { ⌜ firstOf (getEarly (now kv) (now rbp) (device .key) (now name)) ≡ ok ⌝ }
+    requires { ⌜ record { status = ok; found = found; entry = entry } ≡ lookedUp (now kv) (now rbp) (now name) ⌝ }
+    requires { ⌜ ReadyFor (flagsOf (payloadAt kvFormat (now kv) found)) (now mix) (now sub) device ⌝ }
+    ensures { λ r. ⌜ record { status = r .status; numbers = r .count ∷ []; output = now (output .exit) } ≡ storeGet (now (kv .entry)) (now (rbp .entry)) (device .key) (now (name .entry)) offset (now (output .entry)) .answer ⌝ }
+{
+    let stored = areas::payload_at(AreaKind::Kv, kv, found);
+    let tag = areas::payload_at(AreaKind::Rbp, rbp, entry);
+    get_record(
+        mix,
+        sub,
+        device,
+        name,
+        offset,
+        stored,
+        entry.held,
+        tag,
+        output,
+    )
+}
+
+// A get once 1 to 3 have passed, with the tables and the device key lent, for who reads many names of one card.
+pub fn get_prepared(
+    mix: &[u32; 256],
+    sub: &[u8; 256],
+    device: DeviceKey,
+    kv: &[u8],
+    rbp: &[u8],
+    name: &[u8],
+    offset: usize,
+    output: &mut [u8],
+) -> Got
+    requires { ⌜ firstOf (getEarly (now kv) (now rbp) (device .key) (now name)) ≡ ok ⌝ }
+    requires { ⌜ Ready (now mix) (now sub) device ⌝ }
+    ensures { λ r. ⌜ record { status = r .status; numbers = r .count ∷ []; output = now (output .exit) } ≡ storeGet (now (kv .entry)) (now (rbp .entry)) (device .key) (now (name .entry)) offset (now (output .entry)) .answer ⌝ }
+{
+    let seen = look_up(kv, rbp, name);
+    if seen.status != status::OK {
+        return Got {
+            status: seen.status,
+            count: 0,
+        };
+    }
+    get_found(
+        mix,
+        sub,
+        device,
+        kv,
+        rbp,
+        name,
+        offset,
+        seen.found,
+        seen.entry,
+        output,
+    )
+}
+
+// The same for one name: nothing is prepared before the record is there.
+fn get_held(
     kv: &[u8],
     rbp: &[u8],
     device_key: &[u8],
@@ -254,21 +327,21 @@ pub fn get_held(
             count: 0,
         };
     }
-    let entry = seen.entry;
-    let stored = areas::payload_at(AreaKind::Kv, kv, seen.found);
-    let tag = areas::payload_at(AreaKind::Rbp, rbp, entry);
+    let found = seen.found;
+    let stored = areas::payload_at(AreaKind::Kv, kv, found);
     let mix = tables::mix_table();
     let sub = tables::sbox_table();
     let device = key_for(&mix, &sub, device_key, stored);
-    get_record(
+    get_found(
         &mix,
         &sub,
         device,
+        kv,
+        rbp,
         name,
         offset,
-        stored,
-        entry.held,
-        tag,
+        found,
+        seen.entry,
         output,
     )
 }

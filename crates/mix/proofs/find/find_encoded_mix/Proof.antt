@@ -1,11 +1,18 @@
 -- `mix::find::find_encoded_mix`: 1 and 2, the search, then the record's bytes.
-use mathlib.Core.Path.{sym, _∙_}
+use mathlib.Core.Path.{sym, ap, _∙_}
+use mathlib.Core.List.{List}
+use Prim.Native.Nat.{ℕ}
+use Rattle.cipher.specs.declared.kdf.DeviceKey.{DeviceKey}
+use Rattle.cipher.specs.Device.{prepared}
 use Rattle.mix.specs.Calls.{findEncodedMix}
 use Rattle.spec.proofs.Status.{answer-refused}
 use Rattle.mix.proofs.FindLaws.{find-exact}
-use Rattle.mix.proofs.Tried.{sane, name-early}
-use Rattle.mix.proofs.Found.{guard-refuses, search-decides, slot-found, given}
+use Rattle.mix.proofs.Tried.{key-sized}
+use Rattle.mix.proofs.Found.{guard-refuses}
 use borrow.Author.Needs.{needs}
+use Rattle.spec.specs.Status.{firstOf}
+use Rattle.spec.specs.Decisions.{keySized}
+use Rattle.store.specs.Parts.{areaTests}
 use Rattle.mix.proofs.find.find_encoded_mix.Statement.{statement}
 use Rattle.mix.proofs.find.find_encoded_mix.Tie as tie
 
@@ -36,73 +43,48 @@ returns-2 c =
     (guard-refuses (a .kv .now) (a .rbp .now) (a .device-key .now) (a .session-id) buf (long .if1 .left) _ (guard .guard-areas .ensures) (test .if2 .taken))
     (test .if2 .taken))
 
-search-slots-requires : tie.Need-search-slots-requires
-search-slots-requires c κs = sym (c .before .guard-areas .ensures) ∙ c .if2 .left
+mix-table-requires : tie.Need-mix-table-requires
+mix-table-requires c κs = search needs
 
-search-status-requires : tie.Need-search-status-requires
-search-status-requires c κs = search needs
+sbox-table-requires : tie.Need-sbox-table-requires
+sbox-table-requires c κs = search needs
 
-refused-requires-3 : tie.Need-refused-requires-3
-refused-requires-3 c κs = search needs
+array16-requires : tie.Need-array16-requires
+array16-requires c κs =
+    let guard = c .before .before .before .before .before in
+    let a = guard .before .before .before .before .before .before .args in
+    key-sized (a .kv .now) (a .rbp .now) (a .device-key .now) (sym (guard .guard-areas .ensures) ∙ c .before .before .before .before .if2 .left)
 
-returns-3 : tie.Need-returns-3
-unfolding findEncodedMix
-returns-3 c =
-    let test = c .before in
-    let status = test .before in
-    let search = status .before in
-    let guard = search .before .before in
+prepare-requires : tie.Need-prepare-requires
+prepare-requires c κs = (c .before .before .before .before .mix-table .ensures, c .before .before .before .sbox-table .ensures)
+
+find-prepared-requires : tie.Need-find-prepared-requires
+unfolding prepared
+find-prepared-requires c κs =
+    let prepare = c .before .before .before in
+    let array16 = prepare .before in
+    let sbox-table = array16 .before .before .before in
+    let mix-table = sbox-table .before in
+    let past = mix-table .before in
+    let guard = past .before in
     let long = guard .before in
     let a = long .before .before .before .before .before .args in
-    let buf = a .mix-buf .now in
-    let g = sym (guard .guard-areas .ensures) ∙ search .before .if2 .left in
-    rw (c .refused3 .ensures) (answer-refused _ _ _ buf
-    (search-decides (a .kv .now) (a .rbp .now) (a .device-key .now) (a .session-id) buf (long .if1 .left) g
-    (search .search-slots .result) (search .search-slots .ensures) _ (status .search-status .ensures))
-    (test .if3 .taken))
-
-name-at-requires : tie.Need-name-at-requires
-name-at-requires c κs =
-    let status = c .before in
-    let search = status .before in
-    let guard = search .before .before in
-    let a = guard .before .before .before .before .before .before .args in
-    let g = sym (guard .guard-areas .ensures) ∙ search .before .if2 .left in
-    let u = sane (a .kv .now) (a .rbp .now) (a .device-key .now) g in
-    let f = slot-found (a .kv .now) (a .rbp .now) (a .device-key .now) (a .session-id) g
-    (search .search-slots .result) (search .search-slots .ensures) _ (status .search-status .ensures) (c .if3 .left) in
-    (u .kv-sized, f .0, f .1)
-
-get-held-requires : tie.Need-get-held-requires
-get-held-requires c κs =
-    let named = c .before in
-    let test = named .before in
-    let status = test .before in
-    let search = status .before in
-    let guard = search .before .before in
-    let a = guard .before .before .before .before .before .before .args in
-    let g = sym (guard .guard-areas .ensures) ∙ search .before .if2 .left in
-    let f = slot-found (a .kv .now) (a .rbp .now) (a .device-key .now) (a .session-id) g
-    (search .search-slots .result) (search .search-slots .ensures) _ (status .search-status .ensures) (test .if3 .left) in
-    name-early (a .kv .now) (a .rbp .now) (a .device-key .now) g (search .search-slots .result .at) _ (named .name-at .ensures) (f .1)
+    let e = prepare .prepare .ensures in
+    let key = ap (λ (d : DeviceKey). d .key) e ∙ array16 .array16 .ensures in
+    let g = ap (λ (k : List ℕ). firstOf (areaTests (a .kv .now) (a .rbp .now) (keySized k))) key ∙ sym (guard .guard-areas .ensures) ∙ past .if2 .left in
+    ((g, long .if1 .left), (mix-table .mix-table .ensures, sbox-table .sbox-table .ensures, e ∙ ap prepared (sym (ap (λ (d : DeviceKey). d .key) e))))
 
 same-length : tie.Need-same-length
 same-length c = search needs
 
-returns-4 : tie.Need-returns-4
-returns-4 c =
-    let get = c .before .before in
-    let named = get .before .before in
-    let test = named .before in
-    let status = test .before in
-    let search = status .before in
-    let guard = search .before .before in
-    let long = guard .before in
-    let a = long .before .before .before .before .before .args in
-    let g = sym (guard .guard-areas .ensures) ∙ search .before .if2 .left in
-    get .get-held .ensures ∙ given (a .kv .now) (a .rbp .now) (a .device-key .now) (a .session-id) g
-    (search .search-slots .result) (search .search-slots .ensures) _ (status .search-status .ensures) (test .if3 .left)
-    (a .mix-buf .now) _ (long .if1 .left) (named .name-at .ensures)
+returns-3 : tie.Need-returns-3
+unfolding prepared
+returns-3 c =
+    let prepare = c .before .before .before .before .before .before in
+    let array16 = prepare .before in
+    let a = array16 .before .before .before .before .before .before .before .before .before .before .before .before .args in
+    let key = ap (λ (d : DeviceKey). d .key) (prepare .prepare .ensures) ∙ array16 .array16 .ensures in
+    c .before .before .find-prepared .ensures ∙ ap (λ (k : List ℕ). findEncodedMix (a .kv .now) (a .rbp .now) k (a .session-id) (a .mix-buf .now)) key
 
 pub find-encoded-mix-spec : {M : Type 1} → statement M
 find-encoded-mix-spec =
@@ -113,11 +95,10 @@ find-encoded-mix-spec =
     guard-areas-requires
     refused-requires-2
     returns-2
-    search-slots-requires
-    search-status-requires
-    refused-requires-3
-    returns-3
-    name-at-requires
-    get-held-requires
+    mix-table-requires
+    sbox-table-requires
+    array16-requires
+    prepare-requires
+    find-prepared-requires
     same-length
-    returns-4)
+    returns-3)

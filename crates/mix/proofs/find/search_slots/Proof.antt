@@ -15,12 +15,12 @@ use Rattle.mix.proofs.find.search_slots.Statement.{statement}
 use Rattle.mix.proofs.find.search_slots.Tie as tie
 
 abbrev Inv-loop : tie.InvT-loop
-Inv-loop kv rbp device-key session-id k s₀ i₀ s i =
+Inv-loop mix sub device kv rbp session-id k s₀ i₀ s i =
     (i ≤ k) × (s .matches ≤ i)
-    × (scan kv rbp device-key session-id i (drop i (slots kvFormat kv)) s ≡ scan kv rbp device-key session-id 0 (slots kvFormat kv) begun)
+    × (scan kv rbp (device .key) session-id i (drop i (slots kvFormat kv)) s ≡ scan kv rbp (device .key) session-id 0 (slots kvFormat kv) begun)
 
 abbrev μ-loop : tie.MeasureT-loop
-μ-loop kv rbp device-key session-id k s₀ i₀ s i = k - i
+μ-loop mix sub device kv rbp session-id k s₀ i₀ s i = k - i
 
 slot-count-requires : tie.Need-slot-count-requires Inv-loop μ-loop
 slot-count-requires c κs = search needs
@@ -32,8 +32,8 @@ try-slot-requires : tie.Need-try-slot-requires Inv-loop μ-loop
 try-slot-requires c κs =
     let at = c .before in
     let count = at .before in
-    let start = count .before .before .before .before in
-    (start .pre, omega (arith, count .slot-count .ensures, c .loop-test .taken), at .loop .inv .1)
+    let start = count .before .before .before in
+    ((start .pre .0, omega (arith, count .slot-count .ensures, c .loop-test .taken), at .loop .inv .1), start .pre .1)
 
 add-i : tie.Need-add-i Inv-loop μ-loop
 add-i c = search needs
@@ -45,10 +45,10 @@ loop-again : tie.Need-loop-again Inv-loop μ-loop
 loop-again c =
     let at = c .before .before in
     let count = at .before in
-    let start = count .before .before .before .before in
+    let start = count .before .before .before in
     let kv = start .args .kv .now in
     let rbp = start .args .rbp .now in
-    let key = start .args .device-key .now in
+    let key = start .args .device .key in
     let session = start .args .session-id in
     let i = at .loop .i in
     let s = at .loop .s in
@@ -63,10 +63,10 @@ returns : tie.Need-returns Inv-loop μ-loop
 returns c =
     let at = c .before in
     let count = at .before in
-    let a = count .before .before .before .before .args in
+    let a = count .before .before .before .args in
     let l = slots kvFormat (a .kv .now) in
     let e = drop-of-length-le l {i = at .loop .i} (omega (arith, slots-length kvFormat (a .kv .now), count .slot-count .ensures, c .loop-test .left)) in
-    sym (ap (λ (m : List (List ℕ)). scan (a .kv .now) (a .rbp .now) (a .device-key .now) (a .session-id) (at .loop .i) m (at .loop .s)) e) ∙ at .loop .inv .2
+    sym (ap (λ (m : List (List ℕ)). scan (a .kv .now) (a .rbp .now) (a .device .key) (a .session-id) (at .loop .i) m (at .loop .s)) e) ∙ at .loop .inv .2
 
 pub search-slots-spec : {M : Type 1} → statement M
 search-slots-spec =

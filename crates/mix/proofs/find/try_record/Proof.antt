@@ -12,21 +12,21 @@ use borrow.Author.Needs.{needs}
 use Rattle.mix.proofs.find.try_record.Statement.{statement}
 use Rattle.mix.proofs.find.try_record.Tie as tie
 
-slice-aggregate-get-held : tie.Need-slice-aggregate-get-held
-slice-aggregate-get-held c = search needs
+slice-aggregate-get-prepared : tie.Need-slice-aggregate-get-prepared
+slice-aggregate-get-prepared c = search needs
 
-get-held-requires : tie.Need-get-held-requires
-get-held-requires c κs = c .before .before .before .before .before .pre
+get-prepared-requires : tie.Need-get-prepared-requires
+get-prepared-requires c κs = c .before .before .before .before .pre
 
 returns : tie.Need-returns
 unfolding mixRecord
 returns c =
     let got = c .before .before .before in
-    let a = got .before .before .before .before .before .before .args in
-    let r = got .get-held .result in
-    let read = got .get-held .last .1 .1 .1 .1 .1 .0 in
+    let a = got .before .before .before .before .before .args in
+    let r = got .get-prepared .result in
+    let read = got .get-prepared .last .1 .1 .1 .1 .1 .1 .1 .0 in
     let g : Answer = record { status = r .status; numbers = r .count ∷ []; output = read } in
-    tried-refused (a .kv .now) (a .rbp .now) (a .device-key .now) (a .name .now) g (got .get-held .ensures) (c .if1 .taken)
+    tried-refused (a .kv .now) (a .rbp .now) (a .device .key) (a .name .now) g (got .get-prepared .ensures) (c .if1 .taken)
 
 sub-mix-valid : tie.Need-sub-mix-valid
 sub-mix-valid c = search needs
@@ -38,11 +38,11 @@ part-mix-valid-end : tie.Need-part-mix-valid-end
 unfolding mixRecord
 part-mix-valid-end c =
     let got = c .before .before .before .before in
-    let a = got .before .before .before .before .before .before .args in
-    let r = got .get-held .result in
-    let read = got .get-held .last .1 .1 .1 .1 .1 .0 in
+    let a = got .before .before .before .before .before .args in
+    let r = got .get-prepared .result in
+    let read = got .get-prepared .last .1 .1 .1 .1 .1 .1 .1 .0 in
     let g : Answer = record { status = r .status; numbers = r .count ∷ []; output = read } in
-    omega (arith, count-fits (a .kv .now) (a .rbp .now) (a .device-key .now) (a .name .now) g (got .get-held .ensures))
+    omega (arith, count-fits (a .kv .now) (a .rbp .now) (a .device .key) (a .name .now) g (got .get-prepared .ensures))
 
 mix-valid-requires : tie.Need-mix-valid-requires
 mix-valid-requires c κs = search needs
@@ -53,12 +53,12 @@ returns-2 c =
     let valid = c .before in
     let test = valid .before .before .before in
     let got = test .before .before .before in
-    let a = got .before .before .before .before .before .before .args in
-    let r = got .get-held .result in
-    let read = got .get-held .last .1 .1 .1 .1 .1 .0 in
+    let a = got .before .before .before .before .before .args in
+    let r = got .get-prepared .result in
+    let read = got .get-prepared .last .1 .1 .1 .1 .1 .1 .1 .0 in
     let g : Answer = record { status = r .status; numbers = r .count ∷ []; output = read } in
     let bad = is-false (valid .mix-valid .ensures ∙ ap mixValid (front (r .count) read)) (c .if2 .taken) in
-    tried-bad (a .kv .now) (a .rbp .now) (a .device-key .now) (a .name .now) g (got .get-held .ensures) (test .if1 .left) bad
+    tried-bad (a .kv .now) (a .rbp .now) (a .device .key) (a .name .now) g (got .get-prepared .ensures) (test .if1 .left) bad
 
 sub-session-at : tie.Need-sub-session-at
 sub-session-at c = search needs
@@ -70,11 +70,11 @@ part-session-at-end : tie.Need-part-session-at-end
 unfolding mixRecord
 part-session-at-end c =
     let got = c .before .before .before .before .before .before .before .before in
-    let a = got .before .before .before .before .before .before .args in
-    let r = got .get-held .result in
-    let read = got .get-held .last .1 .1 .1 .1 .1 .0 in
+    let a = got .before .before .before .before .before .args in
+    let r = got .get-prepared .result in
+    let read = got .get-prepared .last .1 .1 .1 .1 .1 .1 .1 .0 in
     let g : Answer = record { status = r .status; numbers = r .count ∷ []; output = read } in
-    omega (arith, count-fits (a .kv .now) (a .rbp .now) (a .device-key .now) (a .name .now) g (got .get-held .ensures))
+    omega (arith, count-fits (a .kv .now) (a .rbp .now) (a .device .key) (a .name .now) g (got .get-prepared .ensures))
 
 session-at-requires : tie.Need-session-at-requires
 unfolding mixRecord
@@ -90,20 +90,20 @@ returns-3 c =
     let valid = test2 .before in
     let test = valid .before .before .before in
     let got = test .before .before .before in
-    let a = got .before .before .before .before .before .before .args in
-    let r = got .get-held .result in
-    let read = got .get-held .last .1 .1 .1 .1 .1 .0 in
+    let a = got .before .before .before .before .before .args in
+    let r = got .get-prepared .result in
+    let read = got .get-prepared .last .1 .1 .1 .1 .1 .1 .1 .0 in
     let g : Answer = record { status = r .status; numbers = r .count ∷ []; output = read } in
     let good = is-true (valid .mix-valid .ensures ∙ ap mixValid (front (r .count) read)) (test2 .if2 .left) in
-    tried-good (a .kv .now) (a .rbp .now) (a .device-key .now) (a .name .now) g (got .get-held .ensures) (test .if1 .left) good _
+    tried-good (a .kv .now) (a .rbp .now) (a .device .key) (a .name .now) g (got .get-prepared .ensures) (test .if1 .left) good _
     (c .session-at .ensures ∙ ap sessionAt (front (r .count) read))
 
 pub try-record-spec : {M : Type 1} → statement M
 try-record-spec =
     tie.close
     (tie.spec
-    slice-aggregate-get-held
-    get-held-requires
+    slice-aggregate-get-prepared
+    get-prepared-requires
     returns
     sub-mix-valid
     part-mix-valid-start

@@ -1,7 +1,12 @@
 -- `store::get::get_held`: a refusal without a key, or what the record gives.
-use mathlib.Core.Path.{_∙_}
+use mathlib.Core.Path.{ap, _∙_}
+use mathlib.Core.List.{List}
+use Prim.Native.Nat.{ℕ}
 use borrow.Author.Needs.{needs}
-use Rattle.store.proofs.GetCall.{get-sane, looked-refused, looked, got-refused}
+use Rattle.spec.specs.Status.{firstOf}
+use Rattle.spec.specs.Calls.{storeGet}
+use Rattle.store.specs.Parts.{getEarly}
+use Rattle.store.proofs.GetCall.{get-sane, looked-refused, looked, got-refused, found-ok}
 use Rattle.store.proofs.get.get_held.Statement.{statement}
 use Rattle.store.proofs.get.get_held.Tie as tie
 
@@ -30,16 +35,6 @@ payload-at-requires c κs =
     (look-up .result) (look-up .ensures) (if1 .left) in
     seen .kv-found
 
-payload-at-requires-2 : tie.Need-payload-at-requires-2
-payload-at-requires-2 c κs =
-    let start = c .before .before .before .before .before .before .before .before .before .before in
-    let args = start .args in
-    let look-up = c .before .before .before .before .look-up in
-    let if1 = c .before .before .if1 in
-    let seen = looked (args .kv .now) (args .rbp .now) (args .device-key .now) (args .name .now) (start .pre)
-    (look-up .result) (look-up .ensures) (if1 .left) in
-    seen .rbp-found
-
 mix-table-requires : tie.Need-mix-table-requires
 mix-table-requires c κs = search needs
 
@@ -50,48 +45,37 @@ key-for-requires : tie.Need-key-for-requires
 key-for-requires c κs =
     let sbox-table = c .before .before .sbox-table in
     let mix-table = c .before .before .before .mix-table in
-    let payload-at = c .before .before .before .before .before .payload-at in
-    let earlier = c .before .before .before .before .before .before .before .before .before .before in
-    let start = earlier .before .before .before .before .before in
+    let payload-at = c .before .before .before .before .payload-at in
+    let if1 = c .before .before .before .before .before .before .if1 in
+    let look-up = c .before .before .before .before .before .before .before .before .look-up in
+    let start = c .before .before .before .before .before .before .before .before .before .before .before .before .before .before in
     let args = start .args in
-    let look-up = c .before .before .before .before .before .before .before .before .before .look-up in
-    let if1 = c .before .before .before .before .before .before .before .if1 in
     let seen = looked (args .kv .now) (args .rbp .now) (args .device-key .now) (args .name .now) (start .pre)
     (look-up .result) (look-up .ensures) (if1 .left) in
     ((mix-table .ensures, sbox-table .ensures), (seen .key-sized, seen .valid _ (payload-at .ensures)))
 
-get-record-requires : tie.Need-get-record-requires
-get-record-requires c κs =
+get-found-requires : tie.Need-get-found-requires
+get-found-requires c κs =
     let key-for = c .before .before .before .key-for in
-    let payload-at2 = c .before .before .before .before .before .before .before .before .payload-at2 in
-    let payload-at = c .before .before .before .before .before .before .before .before .before .payload-at in
-    let earlier = c .before .before .before .before .before .before .before .before .before .before in
-    let start = earlier .before .before .before .before .before .before .before .before .before in
+    let payload-at = c .before .before .before .before .before .before .before .before .payload-at in
+    let if1 = c .before .before .before .before .before .before .before .before .before .before .if1 in
+    let look-up = c .before .before .before .before .before .before .before .before .before .before .before .before .look-up in
+    let start = c .before .before .before .before .before .before .before .before .before .before .before .before .before .before .before .before .before .before in
     let args = start .args in
-    let look-up = c .before .before .before .before .before .before .before .before .before .before .before .before .before .look-up in
-    let if1 = c .before .before .before .before .before .before .before .before .before .before .before .if1 in
-    let seen = looked (args .kv .now) (args .rbp .now) (args .device-key .now) (args .name .now) (start .pre)
-    (look-up .result) (look-up .ensures) (if1 .left) in
-    ((seen .sixteen _ (payload-at2 .ensures), seen .valid _ (payload-at .ensures)), key-for .ensures .1)
+    let early = ap (λ (k : List ℕ). firstOf (getEarly (args .kv .now) (args .rbp .now) k (args .name .now))) (key-for .ensures .0) in
+    (early ∙ start .pre, (found-ok (look-up .result) _ (if1 .left) (look-up .ensures), rw (← payload-at .ensures) (key-for .ensures .1)))
 
 same-length : tie.Need-same-length
 same-length c = search needs
 
 returns-2 : tie.Need-returns-2
 returns-2 c =
-    let get-record = c .before .before .get-record in
+    let get-found = c .before .before .get-found in
     let key-for = c .before .before .before .before .before .before .key-for in
-    let payload-at2 = c .before .before .before .before .before .before .before .before .before .before .before .payload-at2 in
-    let payload-at = c .before .before .before .before .before .before .before .before .before .before .before .before .payload-at in
-    let earlier = c .before .before .before .before .before .before .before .before .before .before in
-    let start = earlier .before .before .before .before .before .before .before .before .before .before .before .before in
+    let start = c .before .before .before .before .before .before .before .before .before .before .before .before .before .before .before .before .before .before .before .before .before in
     let args = start .args in
-    let look-up = c .before .before .before .before .before .before .before .before .before .before .before .before .before .before .before .before .look-up in
-    let if1 = c .before .before .before .before .before .before .before .before .before .before .before .before .before .before .if1 in
-    let seen = looked (args .kv .now) (args .rbp .now) (args .device-key .now) (args .name .now) (start .pre)
-    (look-up .result) (look-up .ensures) (if1 .left) in
-    get-record .ensures
-    ∙ seen .got (args .offset) (args .output .now) _ _ _ (payload-at .ensures) (payload-at2 .ensures) (key-for .ensures .0)
+    get-found .ensures
+    ∙ ap (λ (k : List ℕ). storeGet (args .kv .now) (args .rbp .now) k (args .name .now) (args .offset) (args .output .now) .answer) (key-for .ensures .0)
 
 pub get-held-spec : {M : Type 1} → statement M
 get-held-spec =
@@ -100,10 +84,9 @@ get-held-spec =
     look-up-requires
     returns
     payload-at-requires
-    payload-at-requires-2
     mix-table-requires
     sbox-table-requires
     key-for-requires
-    get-record-requires
+    get-found-requires
     same-length
     returns-2)
