@@ -489,8 +489,8 @@ static void one_slot(void)
     size_t i, j;
     both[PLAIN] = one_slot_of(&STORES[PLAIN], &PEERS[PEER_PLAIN]);
     both[OURS] = one_slot_of(&STORES[OURS], &PEERS[PEER_OURS]);
-    must_agree(&both[OURS].sealed, &both[PLAIN].sealed);
-    must_agree(&both[OURS].bare, &both[PLAIN].bare);
+    must_agree(&both[PLAIN].sealed, &both[OURS].sealed);
+    must_agree(&both[PLAIN].bare, &both[OURS].bare);
     for (i = PLAIN; i <= OURS; i++) {
         const struct one_slot *s = &both[i];
         const void *const of[ROWS] = {&s->sealed, &s->sealed, s->ciphers, s->ciphers, s->ciphers, &s->bare, &s->bare};

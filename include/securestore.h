@@ -2,7 +2,7 @@
  *
  * The library keeps nothing between calls, allocates nothing and does no input or output. The caller reads the card (kv) and the chip (rbp) into two
  * buffers, lends them to a call, and writes both back, the chip first, after a set, set_finalize, save_key, store_mix, remove or reset that answered
- * SECURESTORE_OK. A call's stack was measured at 4.6 kB at most (load_key, x86-64); what a call leaves there, plaintext, the device key and derived keys among
+ * SECURESTORE_OK. A call's stack was measured at 4.5 kB at most (save_key, x86-64); what a call leaves there, plaintext, the device key and derived keys among
  * it, is not wiped.
  *
  * Pointers. The library is proved for lent memory, and what makes memory lent is the caller's part:

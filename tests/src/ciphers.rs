@@ -1,4 +1,4 @@
-//! The library's ciphers against the published vectors and against the reference.
+//! The library's ciphers against the vectors and against the reference.
 
 use crate::aes::{Aes128, Block, BLOCK};
 use crate::library::{Library, Seen};
@@ -46,7 +46,7 @@ fn counted(library: &dyn Library, key: &Block, first: Block, input: &[u8]) -> Se
     Ok(made)
 }
 
-/// What is published in a row, and what the library makes of the row, as long as it
+/// What a row expects, and what the library makes of the row, as long as it
 /// states. K1 is added to a message of one block, so that the tag of K1 itself is the
 /// encryption of the zero block; K2 is added to the empty message's padding.
 fn expected_and_made(library: &dyn Library, trial: &Trial, row: &Row) -> Seen<(Vec<u8>, Vec<u8>)> {
@@ -86,7 +86,7 @@ fn expected_and_made(library: &dyn Library, trial: &Trial, row: &Row) -> Seen<(V
     Ok((expected, made))
 }
 
-/// How many blocks a row gave, all as published.
+/// How many blocks a row gave, all as expected.
 fn blocks(library: &dyn Library, trial: &Trial, row: &Row) -> Result<usize, String> {
     let (expected, made) = expected_and_made(library, trial, row)?;
     same(|| trial.what.clone(), &expected, &made)?;

@@ -1,4 +1,4 @@
-//! The published vectors that the product runs too: one a line, fields parted by tabs,
+//! The vectors that the product runs too: one a line, fields parted by tabs,
 //! hex, `-` for an empty field, the first line naming the columns. `trials.tsv` lists
 //! what is tried on which columns.
 
