@@ -1,4 +1,4 @@
--- `mix::find::find_encoded_mix`: 1 and 2, the search, then the record's bytes.
+-- `mix::find::find_encoded_mix`: 1 and 2, then what the search gives with keys prepared from the device key.
 use mathlib.Core.Path.{sym, ap, _∙_}
 use mathlib.Core.List.{List}
 use Prim.Native.Nat.{ℕ}
