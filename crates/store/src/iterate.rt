@@ -50,10 +50,11 @@ pub fn iterator_next(
         return refused(status::ERR_NOT_FOUND);
     }
     let name = areas::name_at(AreaKind::Kv, kv, at);
-    bytes::copy(name, name_buf);
+    let len = name.len();
+    name_buf[0..len].copy_from_slice(name);
     Iterated {
         status: status::OK,
-        name_len: name.len(),
+        name_len: len,
         next_slot: at + 1,
     }
 }
