@@ -51,11 +51,10 @@ fn new_handle(name: &[u8], flags: u32, iv: &[u8], final_data_size: usize) -> Inc
     ensures { result ≡ new_handle name.now flags iv.now final_data_size }
 {
     let mut filled = [0u8; 64];
-    let len = name.len();
-    filled[0..len].copy_from_slice(name);
+    parts::paste(&mut filled, 0, name);
     IncSetHandle {
         name: filled,
-        name_len: len as u32,
+        name_len: name.len() as u32,
         flags,
         iv: parts::array8(iv),
         final_data_size: final_data_size as u32,
