@@ -1,6 +1,5 @@
 -- `script_replay::step::remove_line`: the call, and its answer.
 use mathlib.Core.Path.{ap, ◌∙◌}
-use borrow.Author.Rules.{rules}
 use Rattle.spec.specs.Calls.{store_remove}
 use Rattle.script_replay.specs.Script.{field}
 use Rattle.script_replay.specs.Replay.{remove_line}

@@ -1,6 +1,5 @@
 -- `script_replay::step::set_line`: flags, IV and data are read, then the call, and its answer.
 use mathlib.Core.Path.{sym, ap, ◌∙◌}
-use borrow.Author.Rules.{rules}
 use Rattle.store.proofs.Tests.{is_false, is_true}
 use Rattle.text.specs.Hex.{is_hex, hex_bytes}
 use Rattle.text.specs.Decimal.{decimal_value}

@@ -1,6 +1,5 @@
 -- `script_replay::step::step`: a line that is too long, one of the three calls, or any other.
 use mathlib.Core.Path.{sym, ◌∙◌}
-use borrow.Author.Rules.{rules}
 use borrow.Author.Tests.{lt-leb}
 use lib.ListN.{length}
 use Rattle.script_replay.specs.Replay.{set_line, get_line, remove_line, step}
