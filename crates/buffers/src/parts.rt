@@ -42,7 +42,7 @@ pub fn paste(dst: &mut [u8], at: usize, src: &[u8])
     ensures { dst.new ≡ put_at dst.old at src.now }
 {
     let end = at + src.len();
-    bytes::copy(src, &mut dst[at..end]);
+    dst[at..end].copy_from_slice(src);
 }
 
 // As many bytes as fit, to the front.
@@ -52,9 +52,12 @@ pub fn copy_fitting(src: &[u8], dst: &mut [u8]) -> usize
 {
     let room = dst.len();
     if src.len() <= room {
-        return bytes::copy(src, dst);
+        let n = src.len();
+        dst[0..n].copy_from_slice(src);
+        return n;
     }
-    bytes::copy(&src[0..room], dst)
+    dst.copy_from_slice(&src[0..room]);
+    room
 }
 
 pub fn array16(s: &[u8]) -> [u8; 16]
@@ -62,7 +65,7 @@ pub fn array16(s: &[u8]) -> [u8; 16]
     ensures { result ≡ s.now }
 {
     let mut a = [0u8; 16];
-    bytes::copy(s, &mut a);
+    a.copy_from_slice(s);
     a
 }
 
@@ -71,6 +74,6 @@ pub fn array8(s: &[u8]) -> [u8; 8]
     ensures { result ≡ s.now }
 {
     let mut a = [0u8; 8];
-    bytes::copy(s, &mut a);
+    a.copy_from_slice(s);
     a
 }

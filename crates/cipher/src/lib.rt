@@ -1,4 +1,6 @@
 // AES-128, CMAC, counter mode and key derivation, each proved equal to its standard's definition in specs/.
+#![tactic(auto)]
+
 pub mod aes;
 pub mod cmac;
 pub mod ctr;

@@ -1,4 +1,6 @@
 // The lines of the edges' files (docs/EDGES.md): words, arguments, what lasts from line to line, and answers held against what a line expects.
+#![tactic(auto)]
+
 pub mod answer;
 pub mod areas;
 pub mod args;

@@ -1,4 +1,6 @@
 // The calls of mixes, as the edges run them: on the card, chip, key and IV that last, with a line's arguments.
+#![tactic(auto)]
+
 use edge_lines::answer::Answer;
 use edge_lines::areas::{front, put, span};
 use edge_lines::args::Args;

@@ -14,7 +14,7 @@ use std::num::{wrapping_add_u64, wrapping_add_usize, wrapping_sub_usize};
 use text::parts::{field, field_count};
 
 // Where a run of lines stands: what lasts, the group's tally and the tally of all before it, and the line that names the group.
-#[derive(Drop)]
+#[derive(Clone, Copy)]
 struct Run {
     env: Env,
     group: Tally,

@@ -1,5 +1,7 @@
 // Runs the edges that stand in text files (docs/EDGES.md): each line is a call with its arguments and the answer that the papers give. Writes how many of
 // each group's lines were as expected, each line that was not, and a verdict.
+#![tactic(auto)]
+
 mod calls;
 mod file;
 mod sweep;

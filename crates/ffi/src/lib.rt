@@ -7,6 +7,8 @@
 // - lend no bytes twice in one call where either lender may write: card, chip, output and out-numbers do not overlap one another or an input;
 // - not use what is lent from another thread or an interrupt while the call runs.
 // Nothing else is assumed: every other argument has an answer.
+#![tactic(auto)]
+
 pub mod cipher_calls;
 pub mod incremental_calls;
 pub mod key_calls;

@@ -1,4 +1,6 @@
 // The monitor product: a player's mix, kept as a record and found again by its session number.
+#![tactic(auto)]
+
 pub mod arrays;
 pub mod codec;
 pub mod find;

@@ -1,4 +1,6 @@
 // One record: made, judged and opened, each function proved equal to its definition in spec.
+#![tactic(auto)]
+
 pub mod flags;
 pub mod mac;
 pub mod open;

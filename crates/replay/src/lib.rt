@@ -3,6 +3,8 @@
 // No contract can say what a call of the C library reads or writes. What is proved here is that every function is safe and ends, and what the steps between
 // such calls do with the buffers (`specs/Turns`). What the bytes mean is proved in `script_replay`: `gather` cuts what was read into lines, `read_header`
 // reads the first, `step` carries out each other and makes its answer.
+#![tactic(auto)]
+
 mod line;
 mod player;
 mod stream;

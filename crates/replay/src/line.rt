@@ -8,7 +8,7 @@ use script_replay::gather;
 use script_replay::gather::HELD_SIZE;
 
 // The first `len` bytes of a line are held, and whether its newline has come.
-#[derive(Drop)]
+#[derive(Clone, Copy)]
 pub struct Line {
     pub stream: Stream,
     pub len: usize,

@@ -15,7 +15,7 @@ pub const ERR_OUTPUT: u32 = 1;
 pub const ERR_INPUT: u32 = 2;
 
 // Of the bytes that were read last, those from `from` to `to` are not used yet; of the answers, the first `used` are to be written.
-#[derive(Drop)]
+#[derive(Clone, Copy)]
 pub struct Stream {
     pub input: i32,
     pub output: i32,

@@ -1,4 +1,6 @@
 // The store's calls. Each answers with a number of `status`, and writes nothing lent before that number is known.
+#![tactic(auto)]
+
 pub mod answers;
 pub mod get;
 pub mod guard;

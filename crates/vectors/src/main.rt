@@ -1,5 +1,7 @@
 // Runs the vectors of data/ through the crate cipher, as data/trials.tsv lists them. Writes for each entry of the list how many
 // trials gave what is expected, of how many, and before that each line that differs; the last line is the verdict.
+#![tactic(auto)]
+
 mod counter;
 mod fields;
 mod list;
