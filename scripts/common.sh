@@ -3,7 +3,7 @@
 # shellcheck disable=SC2154 # me, here
 
 place=   # a temporary folder, once `enter` has made it
-running= # not empty while a command of `lead` or `prove` runs; then $! is its process group
+running= # not empty while a command of `lead` or `make_crate` runs; then $! is its process group
 
 say() {
     echo "$me: $1" >&2
@@ -32,13 +32,10 @@ need_rt() {
     [ -n "$kit" ] || fail "README.md names no kit of the Rattle toolchain"
     command -v rt >/dev/null || fail "no rt on the path: install the Rattle toolchain, $kit (README.md says where it comes from)"
     version=$(rt version 2>/dev/null) || fail "rt version fails: the Rattle toolchain, $kit, is not whole"
-    case $version in
-    "$kit" | "$kit"[!0-9]*) ;;
-    *) fail "rt is of another kit: the proofs are written for $kit, and rt version says '$version'" ;;
-    esac
+    [ "${version%% *}" = "$kit" ] || fail "rt is of another kit: the proofs are written for $kit, and rt version says '$version'"
 }
 
-# Everything that is made stands below target/.
+# Everything that is made stands below target/ and, where rt makes it, in out/ of each crate.
 need_target() {
     # shellcheck disable=SC2015 # any of the three may fail
     mkdir -p target 2>/dev/null && probe=$(mktemp target/.probe.XXXXXX 2>/dev/null) && rm -f "$probe" || fail "can't write to $(pwd)/target"
@@ -100,59 +97,99 @@ lead() {
     return "$code"
 }
 
-# Proves crates and what they stand on, and says what goes on. What rt says is in $place/rt; the status is rt's.
+# The crates of the repository that these stand on, from the lowest up, each before those above it, and these last. crates.txt names them.
+with_below() {
+    awk -v names="$*" '
+        function visit(name,   n, i, list) {
+            if (!(name in below) || name in seen) return
+            seen[name]
+            n = split(below[name], list, " ")
+            for (i = 1; i <= n; i++) visit(list[i])
+            print name
+        }
+        { sub(/#.*/, "") }
+        split($0, side, ":") == 2 { split(side[1], word, " "); below[word[1]] = side[2] }
+        END { n = split(names, top, " "); for (i = 1; i <= n; i++) visit(top[i]) }' crates.txt
+}
+
+# The crates of the repository that a crate names in crates.txt.
+below() {
+    # shellcheck disable=SC2013 # words
+    for crate in $(sed -n "s/^$1\( [^:]*\)\{0,1\}://p" crates.txt); do [ ! -d "crates/$crate" ] || echo "$crate"; done
+}
+
+# Proves crates and what they stand on, the lowest first, and says what goes on. The status is rt's where it fails, and then `bad` names the crate.
 prove() {
+    unchanged=0
+    # shellcheck disable=SC2046 # a list of crates
+    each $(with_below "$@")
+    code=$?
+    [ "$unchanged" = 0 ] || say "crates unchanged since they were proved: $unchanged"
+    return "$code"
+}
+
+each() {
+    for crate; do make_crate "$crate" || return; done
+}
+
+# Proves a crate whose libraries are proved, and makes of it what it is: a library for the crates above it, crates/NAME/out/libNAME.a, or the program
+# crates/NAME/out/NAME. What rt says is in target/log/NAME.out.
+make_crate() {
+    bad=$1
+    verb=lib
+    [ ! -f "crates/$1/src/main.rt" ] || verb=run
     mkdir -p target/log
-    rm -f target/log/*.out "$place/rt.status"
-    begun=' ' over=' ' unchanged=0 quiet=0
-    since=$(date +%s)
+    log=$(pwd)/target/log/$1.out
+    rm -f "$log" "$place/rt.status"
+    told=
+    quiet=$(date +%s)
+    since=$quiet
     running=yes
+    # A program is run, too, with nothing to read.
     # shellcheck disable=SC2016 # the inner shell's words
-    setsid sh -c 'out=$1; shift; rt check "$@" >"$out" 2>&1; echo "$?" >"$out.status"' prove "$place/rt" "$@" &
+    setsid sh -c 'cd "crates/$1" && rt "$2" </dev/null >"$3" 2>&1; echo "$?" >"$4"' make_crate "$1" "$verb" "$log" "$place/rt.status" &
     while [ ! -s "$place/rt.status" ] && kill -s 0 "$!" 2>/dev/null; do
-        sleep 0.5
-        tell
+        if [ -z "$told" ]; then sleep 0.05; else sleep 0.5; fi
+        tell "$1"
     done
     wait "$!"
     running=
-    tell
-    [ "$unchanged" = 0 ] || say "crates unchanged since they were proved: $unchanged"
-    return "$(cat "$place/rt.status" 2>/dev/null || echo 2)"
+    code=$(cat "$place/rt.status" 2>/dev/null || echo 2)
+    # How the program ends does not matter here, but that it was built.
+    [ "$verb" = lib ] || ! grep -q '^rt: running out/' "$log" || code=0
+    if [ "$code" != 0 ]; then
+        report "$1 NOT PROVED (rt $verb ended with status $code; what it said is in target/log/$1.out)"
+    elif [ ! -s "$log" ] || grep -q '^rt: nothing has changed since' "$log"; then
+        unchanged=$((unchanged + 1))
+    else
+        [ -n "$told" ] || announce "$1"
+        report "$1 proved ($(($(date +%s) - since)) s)"
+    fi
+    return "$code"
 }
 
-# Says which crates are proved and which are being proved. rt writes target/log/NAME.out from a crate's start, and its verdict there at the end.
+# Says that a crate is being proved, once it is seen that this takes time, and then every half a minute.
 tell() {
-    fresh=
-    going=
-    quiet=$((quiet + 1))
-    for out in target/log/*.out; do
-        [ -f "$out" ] || continue
-        name=${out##*/}
-        name=${name%.out}
-        case $over in *" $name "*) continue ;; esac
-        case $begun in *" $name "*) new= ;; *) new=$name ;; esac
-        verdict=$(grep -E "^rt: $name (proved|NOT PROVED)" "$out" | tail -n 1)
-        case $verdict in
-        '') fresh="$fresh $new" going="$going $name" ;;
-        *unchanged*) unchanged=$((unchanged + 1)) ;;
-        *)
-            [ -z "$new" ] || announce "$new"
-            report "${verdict#rt: }"
-            ;;
-        esac
-        [ -z "$verdict" ] || over="$over$name "
-    done
-    for name in $fresh; do announce "$name"; done
-    [ "$quiet" -lt 60 ] || [ -z "$going" ] || report "still proving$going, $(($(date +%s) - since)) s so far"
+    now=$(date +%s)
+    if [ -z "$told" ]; then
+        [ $((now - since)) -lt 2 ] || announce "$1"
+    elif [ $((now - quiet)) -ge 30 ]; then
+        report "still proving $1, $((now - since)) s so far"
+    fi
 }
 
 # scripts/crates.tsv has for each crate how long its proof takes and what it is.
 announce() {
-    begun="$begun$1 "
+    told=yes
     report "proving $1$(awk -F '\t' -v name="$1" '$1 == name { print ": " $3 " (about " $2 " s)" }' scripts/crates.tsv)"
 }
 
 report() {
     say "$1"
-    quiet=0
+    quiet=$(date +%s)
+}
+
+# What rt said of the crate that failed, but for what is proved.
+said_by_rt() {
+    grep -Ev ': proved$|^(rt: chose|logic|statements|library|axioms|only=) ' "target/log/$bad.out" | tail -n 40 >&2
 }

@@ -8,32 +8,21 @@ need_cc() {
     command -v "$cc" >/dev/null || fail "no C compiler '$cc': install one, or name it by CC"
 }
 
-# The crates of the repository that a crate names in crates.txt.
-below() {
-    # shellcheck disable=SC2013 # words
-    for crate in $(sed -n "s/^$1://p" crates.txt); do [ ! -d "crates/$crate" ] || echo "$crate"; done
-}
-
 # What is made of a crate and with it: the tools, the crate, and the other files named. rt's stamp of a crate that it stands on tells that crate's files
-# and all below it.
+# and all below it; rt leaves none where a file changed meanwhile, and then nothing counts as unchanged.
 inputs() {
     top=$1
     shift
     rt version
     "$cc" --version
     cat "$@"
-    find "crates/$top" -type f -exec sha256sum {} + | sort
-    for crate in $(below "$top"); do echo "$crate $(cat "target/stamp/$crate")"; done
+    grep "^${top}[ :]" crates.txt
+    find "crates/$top" -path "crates/$top/out" -prune -o -type f -exec sha256sum {} + | sort
+    for crate in $(below "$top"); do echo "$crate $(cat "crates/$crate/out/rlib/stamp" 2>/dev/null || date +%s)"; done
 }
 
-# What rt said, but for what is proved.
-said_by_rt() {
-    grep -v ': proved$' "$place/rt" | tail -n 40 >&2
-}
-
-# The archive, too, since tests/nights links it.
 player_files() {
-    sha256sum target/bin/replay target/staticlib/libreplay.a 2>&1
+    sha256sum target/bin/replay 2>&1
 }
 
 # Proves the player and builds it, unless it is there and of the same inputs. Where that fails, none is left, and `why` says what failed.
@@ -48,11 +37,13 @@ make_player() {
         say "the player is unchanged"
         return 0
     fi
-    say "proving and compiling the player (about 30 s)"
+    say "proving and compiling the player"
     rm -f target/bin/replay target/bin/replay.stamp
-    lead rt staticlib replay >"$place/rt" 2>&1 || not_proved_player || return
+    make_crate replay || not_proved_player || return
     mkdir -p target/bin
-    "$cc" -std=c99 -O2 -Wall -Wextra -Wpedantic -Werror programs/replay.c target/staticlib/libreplay.a -o target/bin/replay ||
+    # What Rattle's library asks of the system beyond the C library is the kit's.
+    kit=$(dirname "$(rt doc)")
+    "$cc" -std=c99 -O2 -Wall -Wextra -Wpedantic -Werror programs/replay.c crates/replay/out/libreplay.a "$kit/c/libos_c.a" -o target/bin/replay ||
         no_player "programs/replay.c does not compile, or does not link" || return
     player_files >"$place/outputs"
     cat "$place/inputs" "$place/outputs" >target/bin/replay.stamp
@@ -60,7 +51,7 @@ make_player() {
 
 not_proved_player() {
     said_by_rt
-    no_player "the player is not proved, so it is not built (the whole of it is in target/log)"
+    no_player "the player is not proved, so it is not built (the whole of it is in target/log/$bad.out)"
 }
 
 no_player() {

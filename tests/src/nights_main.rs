@@ -5,7 +5,6 @@ mod player;
 use std::env;
 use std::fs::{File, OpenOptions};
 use std::io::Read;
-use std::os::unix::io::AsRawFd;
 use std::path::{Path, PathBuf};
 use std::process::ExitCode;
 use std::sync::atomic::{AtomicUsize, Ordering};
@@ -17,11 +16,13 @@ use reference::rng::Rng;
 use reference::score::{coverage, exit_of, in_parts, verdict, Score};
 use reference::{night_edges, replay};
 
+use player::{Ended, Player};
+
 const USAGE: &str = include_str!("../nights.txt");
 const PROGRAM: &str = "replay";
-/// One night in so many comes through a pipe in pieces, and one by the program.
+/// One night in so many comes through a pipe in pieces, and one is answered through one.
 const IN_PIECES: u64 = 40;
-const BY_PROGRAM: u64 = 333;
+const BY_PIPES: u64 = 333;
 /// Differing nights that are shortened: with a wrong player most may differ.
 const SHORTENED: usize = 10;
 
@@ -49,7 +50,7 @@ fn options(mut arguments: impl Iterator<Item = String>) -> Result<Option<Options
     Ok(Some(options))
 }
 
-/// The folder of the program, as build.rs finds that of the archive.
+/// The folder of the program, as build.rs finds that of the library.
 fn program() -> PathBuf {
     let folder = env::var("SECURESTORE_BIN_DIR").unwrap_or_else(|_| "../target/bin".into());
     let root = Path::new(env!("CARGO_MANIFEST_DIR"));
@@ -61,26 +62,28 @@ fn main() -> ExitCode {
 }
 
 fn run(options: &Options) -> Score {
-    let (seed, program) = (options.seed, program());
+    let (seed, player) = (options.seed, &Player::new(program()));
     let mut score = Score::default();
     println!("seed {seed} nights {}", options.nights);
-    score.check("edges", edges(&player::in_memory));
+    score.check("edges", edges(&|night| player.in_memory(night)));
     let each_byte = |night: &[u8]| {
         // The longest in a few thousand pieces.
         let least = night.len() / 4_000 + 1;
         let cuts: Vec<usize> = (1..night.len()).step_by(least).collect();
-        player::in_pieces(night, &cuts)
+        player.in_pieces(night, &cuts)
     };
     score.check("edges-byte-by-byte", edges(&each_byte));
-    let by_program = |night: &[u8]| player::by_program(&program, night, false);
-    score.check("edges-by-program", edges(&by_program));
-    score.check("ends-of-reads", ends(nights::at_read_end, 1_104));
-    score.check("ends-of-writes", ends(nights::at_write_end, 970));
-    score.check("big-nights", big_nights(seed));
-    score.check("endless-lines", endless_lines(seed));
-    score.check("no-output", no_output(&program));
-    score.check("no-input", no_input(&program));
-    run_nights(options, &program, &mut score);
+    score.check(
+        "edges-by-pipes",
+        edges(&|night| player.by_pipes(night, false)),
+    );
+    score.check("ends-of-reads", ends(player, nights::at_read_end, 1_104));
+    score.check("ends-of-writes", ends(player, nights::at_write_end, 970));
+    score.check("big-nights", big_nights(player, seed));
+    score.check("endless-lines", endless_lines(player, seed));
+    score.check("no-output", no_output(player));
+    score.check("no-input", no_input(player));
+    run_nights(options, player, &mut score);
     score
 }
 
@@ -96,24 +99,22 @@ fn edges(plays: Plays) -> Checked {
 }
 
 /// Nights in which a read or write of a usual size would end at each byte of something.
-fn ends(night: fn(usize, usize) -> Vec<u8>, most: usize) -> Checked {
-    let mut mismatches = Vec::new();
-    let mut count = 0;
-    for size in [4_096, 65_536] {
-        for back in 0..most {
-            count += 1;
-            let night = night(size, back);
-            let expected = replay::replay(&night);
-            if let Some(different) = nights::difference(&night, &expected, &player::in_memory) {
-                mismatches.push(format!("  {back} bytes before {size}: {different}\n"));
-            }
-        }
-    }
+fn ends(player: &Player, night: fn(usize, usize) -> Vec<u8>, most: u64) -> Checked {
+    const SIZES: [usize; 2] = [4_096, 65_536];
+    let count = most * SIZES.len() as u64;
+    let ((), mismatches) = in_parts(count, |(), ()| (), &|index, ()| {
+        let (size, back) = (SIZES[(index / most) as usize], (index % most) as usize);
+        let night = night(size, back);
+        let expected = replay::replay(&night);
+        let plays = |night: &[u8]| player.in_memory(night);
+        let different = nights::difference(&night, &expected, &plays)?;
+        Some(format!("  {back} bytes before {size}: {different}\n"))
+    });
     verdict(&mismatches, format!("{count} nights"))
 }
 
 /// More than a read can bring at once.
-fn big_nights(seed: u64) -> Checked {
+fn big_nights(player: &Player, seed: u64) -> Checked {
     let mut mismatches = Vec::new();
     let mut bytes = 0;
     for index in 0..2 {
@@ -122,8 +123,9 @@ fn big_nights(seed: u64) -> Checked {
         let expected = replay::replay(&night);
         let mut rng = Rng::part(seed ^ 14 << 40, index);
         let cuts = nights::cuts(&night, &mut rng);
-        let in_pieces = |night: &[u8]| player::in_pieces(night, &cuts);
-        let ways: [(&str, Plays); 2] = [("in memory", &player::in_memory), ("piped", &in_pieces)];
+        let in_memory = |night: &[u8]| player.in_memory(night);
+        let in_pieces = |night: &[u8]| player.in_pieces(night, &cuts);
+        let ways: [(&str, Plays); 2] = [("in memory", &in_memory), ("piped", &in_pieces)];
         for (way, plays) in ways {
             if let Some(different) = nights::difference(&night, &expected, plays) {
                 mismatches.push(format!("  big night {index} {way}: {different}\n"));
@@ -133,21 +135,22 @@ fn big_nights(seed: u64) -> Checked {
     verdict(&mismatches, format!("{bytes} bytes"))
 }
 
-fn endless_lines(seed: u64) -> Checked {
+fn endless_lines(player: &Player, seed: u64) -> Checked {
     const NIGHTS: u64 = 12;
     let mut mismatches = Vec::new();
     for index in 0..NIGHTS {
         let night = nights::endless_night(Rng::part(seed ^ 15 << 40, index));
         let expected = replay::replay(&night);
-        if let Some(different) = nights::difference(&night, &expected, &player::in_memory) {
+        let plays = |night: &[u8]| player.in_memory(night);
+        if let Some(different) = nights::difference(&night, &expected, &plays) {
             mismatches.push(format!("  endless night {index}: {different}\n"));
         }
     }
     verdict(&mismatches, format!("{NIGHTS} nights"))
 }
 
-fn due(what: &str, got: impl Into<i64>, due: i64) -> Result<(), String> {
-    let got = got.into();
+fn due(what: &str, got: Result<Ended, String>, due: Ended) -> Result<(), String> {
+    let got = got.map_err(|why| format!("{what}: {why}"))?;
     if got == due {
         Ok(())
     } else {
@@ -162,87 +165,98 @@ fn open(path: &str, write: bool) -> Result<File, String> {
 
 const SHORT_NIGHT: &[u8] = b"00112233445566778899aabbccddeeff\t1\nget\ta\n";
 
-/// Result 1, where there is something to write and it can't be.
-fn no_output(program: &Path) -> Checked {
-    let result =
-        |input: &File, output: &File| player::result(input.as_raw_fd(), output.as_raw_fd());
+/// Status 1, where there is something to write and it can't be. Where nobody reads what is
+/// written, the signal ends the program before, unless that is ignored.
+fn no_output(player: &Player) -> Checked {
     let mut cases = 0;
     for night in [SHORT_NIGHT, b"", b"bad"] {
         let input = || player::holding(night);
         let shown = night.escape_ascii();
-        due(
-            &format!("/dev/full, \"{shown}\""),
-            result(&input(), &open("/dev/full", true)?),
-            1,
-        )?;
+        let full = player.ends(input(), open("/dev/full", true)?);
+        due(&format!("/dev/full, \"{shown}\""), full, Ended::With(1))?;
+        let read_only = player.ends(input(), open("/dev/null", false)?);
         due(
             &format!("read only, \"{shown}\""),
-            result(&input(), &open("/dev/null", false)?),
-            1,
+            read_only,
+            Ended::With(1),
         )?;
-        due(
-            &format!("no descriptor, \"{shown}\""),
-            player::result(input().as_raw_fd(), -1),
-            1,
-        )?;
+        let none = player.ends_without_output(input());
+        due(&format!("no descriptor, \"{shown}\""), none, Ended::With(1))?;
+        let what = format!("nobody reads, \"{shown}\"");
         let (end, output) = player::pipe();
         drop(end);
-        due(
-            &format!("nobody reads, \"{shown}\""),
-            result(&input(), &output),
-            1,
-        )?;
-        let full = open("/dev/full", true)?;
-        let status = player::status(program, input(), full)?;
-        due(&format!("program to /dev/full, \"{shown}\""), status, 1)?;
+        let failed = player.ends_unsignalled(input(), output.try_clone().map_err(told)?);
+        due(&what, failed, Ended::With(1))?;
+        due(&what, player.ends(input(), output), Ended::ByPipe)?;
         cases += 5;
     }
     // More than a pipe holds, and the reader goes after a few bytes.
     let night = [SHORT_NIGHT, &b"\n".repeat(1 << 16)].concat();
-    let (mut end, output) = player::pipe();
-    let got = thread::scope(|scope| {
-        scope.spawn(move || end.read_exact(&mut [0; 10]));
-        result(&player::holding(&night), &output)
-    });
-    due("the reader goes", got, 1)?;
-    Ok(format!("{} cases", cases + 1))
+    for ignored in [true, false] {
+        let (mut end, output) = player::pipe();
+        let got = thread::scope(|scope| {
+            scope.spawn(move || end.read_exact(&mut [0; 10]));
+            let input = player::holding(&night);
+            if ignored {
+                player.ends_unsignalled(input, output)
+            } else {
+                player.ends(input, output)
+            }
+        });
+        let wanted = if ignored {
+            Ended::With(1)
+        } else {
+            Ended::ByPipe
+        };
+        due("the reader goes", got, wanted)?;
+        cases += 1;
+    }
+    Ok(format!("{cases} cases"))
 }
 
-/// Result 2, where not even the first byte can be read.
-fn no_input(program: &Path) -> Checked {
+fn told(why: std::io::Error) -> String {
+    why.to_string()
+}
+
+/// Status 2, where not even the first byte can be read.
+fn no_input(player: &Player) -> Checked {
     let out = player::memory;
-    let result = |input: &File| player::result(input.as_raw_fd(), out().as_raw_fd());
-    due("write only", result(&open("/dev/null", true)?), 2)?;
-    due("a folder", result(&open("/", false)?), 2)?;
-    due("no descriptor", player::result(-1, out().as_raw_fd()), 2)?;
+    let write_only = player.ends(open("/dev/null", true)?, out());
+    due("write only", write_only, Ended::With(2))?;
     due(
-        "program from a folder",
-        player::status(program, open("/", false)?, out())?,
-        2,
+        "a folder",
+        player.ends(open("/", false)?, out()),
+        Ended::With(2),
+    )?;
+    due(
+        "no descriptor",
+        player.ends_without_input(out()),
+        Ended::With(2),
     )?;
     // Nothing to read is no failure.
-    due("/dev/null", result(&open("/dev/null", false)?), 0)?;
-    Ok("5 cases".into())
+    let nothing = player.ends(open("/dev/null", false)?, out());
+    due("/dev/null", nothing, Ended::With(0))?;
+    Ok("4 cases".into())
 }
 
 /// How a night of that number is played.
-fn played(program: &Path, seed: u64, index: u64, night: &[u8]) -> Printed {
-    if index % BY_PROGRAM == 5 {
-        player::by_program(program, night, index % 2 == 0)
+fn played(player: &Player, seed: u64, index: u64, night: &[u8]) -> Printed {
+    if index % BY_PIPES == 5 {
+        player.by_pipes(night, index % 2 == 0)
     } else if index % IN_PIECES == 7 {
         let mut rng = Rng::part(seed ^ 16 << 40, index);
-        player::in_pieces(night, &nights::cuts(night, &mut rng))
+        player.in_pieces(night, &nights::cuts(night, &mut rng))
     } else {
-        player::in_memory(night)
+        player.in_memory(night)
     }
 }
 
-fn run_nights(options: &Options, program: &Path, score: &mut Score) {
+fn run_nights(options: &Options, player: &Player, score: &mut Score) {
     let seed = options.seed;
     let shortened = AtomicUsize::new(0);
     let (tally, mismatches) = in_parts(options.nights, Tally::add, &|index, tally| {
         let night = nights::night(seed, index);
-        let plays = |night: &[u8]| played(program, seed, index, night);
+        let plays = |night: &[u8]| played(player, seed, index, night);
         let different = nights::check(&night, &plays, tally)?;
         if shortened.fetch_add(1, Ordering::Relaxed) >= SHORTENED {
             return Some(format!("  night {index} of seed {seed}: {different}\n"));
