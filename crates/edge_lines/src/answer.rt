@@ -9,7 +9,7 @@ use text::parts::field;
 
 // Up to three numbers, and up to three runs of bytes, which stand one behind the other in a buffer beside it. Not `ok` is a line that cannot be read or carried
 // out; `refused`, a call whose status, the first number, is not 0; `changed`, one that was refused and yet changed card or chip.
-#[derive(Drop)]
+#[derive(Clone, Copy)]
 pub struct Answer {
     pub ok: bool,
     pub refused: bool,

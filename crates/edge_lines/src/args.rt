@@ -8,7 +8,7 @@ use text::hex::Coded;
 use text::parts::field;
 
 // What was read of each: how many bytes, which stand in a register, or a number.
-#[derive(Drop)]
+#[derive(Clone, Copy)]
 pub struct Args {
     pub ok: bool,
     pub values: [usize; 6],

@@ -11,7 +11,7 @@ use text::parts::field;
 
 // Lengths of the card (0), the chip (1), the handle (2) and the staging buffer (3); and of card and chip in each copy: one that no copy can have where there
 // is none. Not `ok` is a line that could not be carried out.
-#[derive(Drop)]
+#[derive(Clone, Copy)]
 pub struct Env {
     pub ok: bool,
     pub lens: [usize; 4],

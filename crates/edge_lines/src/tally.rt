@@ -1,7 +1,7 @@
 // How many lines were as expected, of how many. Sums wrap so that no bound has to be carried.
 use std::num::{wrapping_add_u64, wrapping_sub_u64};
 
-#[derive(Drop)]
+#[derive(Clone, Copy)]
 pub struct Tally {
     pub good: u64,
     pub tried: u64,

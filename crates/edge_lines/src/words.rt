@@ -43,7 +43,7 @@ const WORDS: [u8; 339] = *b"slots .nn;\
 
 const COUNT: usize = 34;
 
-#[derive(Drop)]
+#[derive(Clone, Copy)]
 pub enum Word {
     Slots,
     Card,

@@ -21,7 +21,7 @@ use text::parts::{field, field_count};
 const STDERR: i32 = 2;
 
 // Where a run of lines stands: what lasts, the group's tally and the tally of all before it, and the line that names the group.
-#[derive(Drop)]
+#[derive(Clone, Copy)]
 struct Run {
     env: Env,
     group: Tally,

@@ -55,7 +55,7 @@ pub fn same(args: Args, env: Env, mem: &[u8]) -> Answer {
 }
 
 // One call for each of some bits of card or chip, inverted one at a time, or for each of some numbers that one byte is given.
-#[derive(Drop)]
+#[derive(Clone, Copy)]
 struct Sweep {
     bits: bool,
     at: usize,
