@@ -12,7 +12,7 @@ ghost use Rattle.cipher.specs.FirstRound.{last_column_part, shared_round};
 use crate::tables;
 use buffers::numbers;
 
-#[derive(Drop)]
+#[derive(Clone, Copy)]
 pub(crate) struct Columns {
     pub(crate) c0: u32,
     pub(crate) c1: u32,

@@ -13,7 +13,7 @@ use crate::{aes, tables};
 use buffers::{numbers, parts};
 
 // The running state: the chaining block with the pending bytes added to it, their count, and the expanded key.
-#[derive(Drop)]
+#[derive(Clone, Copy)]
 pub struct CmacState {
     pub block: [u8; 16],
     pub pending: usize,
@@ -21,7 +21,7 @@ pub struct CmacState {
 }
 
 // The running state without its key.
-#[derive(Drop)]
+#[derive(Clone, Copy)]
 pub(crate) struct Pending {
     pub(crate) block: [u8; 16],
     pub(crate) count: usize,

@@ -62,7 +62,7 @@ pub fn derive_key(device_key: [u8; 16], prefix: &[u8], name: &[u8]) -> [u8; 16]
 }
 
 // The device key with what each derivation takes of it: its expansion, and the zero block encrypted under it.
-#[derive(Drop)]
+#[derive(Clone, Copy)]
 pub struct DeviceKey {
     pub key: [u8; 16],
     pub keys: [u32; 44],

@@ -5,7 +5,7 @@ use std::num::wrapping_add_usize;
 use text::hex::Coded;
 
 // How far a text was read, and a number that it gave: of bytes, or of times.
-#[derive(Drop)]
+#[derive(Clone, Copy)]
 struct Read {
     ok: bool,
     at: usize,

@@ -6,7 +6,7 @@ use crate::key_file;
 use buffers::{compare, numbers};
 use store::status;
 
-#[derive(Drop)]
+#[derive(Clone, Copy)]
 pub struct Field {
     pub status: u32,
     pub value: u32,

@@ -1,5 +1,5 @@
 // A key file's attributes and what parsing gives.
-#[derive(Drop)]
+#[derive(Clone, Copy)]
 pub struct KeyAttributes {
     pub lifetime: u32,
     pub key_type: u32,
@@ -9,7 +9,7 @@ pub struct KeyAttributes {
 }
 
 // A refusal has 0 for every number but its status.
-#[derive(Drop)]
+#[derive(Clone, Copy)]
 pub struct KeyFile {
     pub status: u32,
     pub attributes: KeyAttributes,

@@ -9,7 +9,7 @@ use store::status;
 
 // What the header says, and the place behind it; then the answer to the material, and the place behind that. A field that is refused leaves the
 // place, so that the header's end cannot be 36.
-#[derive(Drop)]
+#[derive(Clone, Copy)]
 pub struct Header {
     pub version: u32,
     pub attributes: KeyAttributes,

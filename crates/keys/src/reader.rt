@@ -5,7 +5,7 @@ ghost use Rattle.keys.specs.Reader.{mark_at, field_at, bytes_at, part_at, part_p
 
 use crate::fields;
 
-#[derive(Drop)]
+#[derive(Clone, Copy)]
 pub struct KeyFileReader<'a> {
     pub file: &'a [u8],
     pub pos: usize,
@@ -18,14 +18,14 @@ pub fn new<'a>(file: &'a [u8]) -> KeyFileReader<'a>
 }
 
 // What a step answers; a refusal has 0 for the value.
-#[derive(Drop)]
+#[derive(Clone, Copy)]
 pub struct Taken {
     pub status: u32,
     pub value: u32,
 }
 
 // The material as part of the lent file, and the number; a refusal has the empty part at the file's front.
-#[derive(Drop)]
+#[derive(Clone, Copy)]
 pub struct KeyMaterial<'a> {
     pub bytes: &'a [u8],
     pub status: u32,

@@ -130,7 +130,7 @@ fn spread(mix: MonitorMix, tags: &mut [u8], levels: &mut [f32], pans: &mut [f32]
 }
 
 // What bytes say: a refusal has session number 0 and no sends.
-#[derive(Drop)]
+#[derive(Clone, Copy)]
 pub struct Decoded {
     pub status: u32,
     pub session_id: u64,

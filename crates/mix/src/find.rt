@@ -19,14 +19,14 @@ use store::answers::Got;
 use store::{get, guard, status};
 
 // One record of a mix: as get, then 20; where it is accepted, its session number.
-#[derive(Drop)]
+#[derive(Clone, Copy)]
 pub struct Tried {
     pub status: u32,
     pub session_id: u64,
 }
 
 // What was seen in the slots so far: the number of the first that is not accepted, how many hold the session, and the first of these.
-#[derive(Drop)]
+#[derive(Clone, Copy)]
 pub struct Search {
     pub status: u32,
     pub matches: usize,

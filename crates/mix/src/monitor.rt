@@ -1,7 +1,7 @@
 // A player's mix, as a value.
 
 // 02: "A send is muted, or has a level, or has a level and a pan".
-#[derive(Drop)]
+#[derive(Clone, Copy)]
 pub enum AuxSend {
     Muted,
     Level(f32),
@@ -9,13 +9,13 @@ pub enum AuxSend {
 }
 
 // The toolchain covers no struct with an array of enums, so each send has a struct around it.
-#[derive(Drop)]
+#[derive(Clone, Copy)]
 pub struct SendSlot {
     pub send: AuxSend,
 }
 
 // The first `count` sends belong to the mix. A mix that is read has `Muted` in the others; where one is given, they are not looked at.
-#[derive(Drop)]
+#[derive(Clone, Copy)]
 pub struct MonitorMix {
     pub session_id: u64,
     pub count: u8,
@@ -23,7 +23,7 @@ pub struct MonitorMix {
 }
 
 // A refusal has session number 0 and no sends.
-#[derive(Drop)]
+#[derive(Clone, Copy)]
 pub struct MixAnswer {
     pub status: u32,
     pub mix: MonitorMix,

@@ -11,7 +11,7 @@ pub const MAX_KV: usize = 64 * KV_SLOT;
 
 pub const MAX_RBP: usize = 64 * RBP_SLOT;
 
-#[derive(Drop)]
+#[derive(Clone, Copy)]
 pub struct AreaSizes {
     pub kv: usize,
     pub rbp: usize,

@@ -12,7 +12,7 @@ use text::parts::NEWLINE;
 pub const HELD_SIZE: usize = LINE_LIMIT + 1;
 
 // How many bytes are held of the line, how many of the read were taken, and whether the line is whole.
-#[derive(Drop)]
+#[derive(Clone, Copy)]
 pub struct Gathered {
     pub len: usize,
     pub taken: usize,

@@ -5,7 +5,7 @@ ghost use Rattle.script_replay.specs.Script.{bad_header, header};
 use crate::step::LINE_LIMIT;
 use text::{decimal, hex, parts};
 
-#[derive(Drop)]
+#[derive(Clone, Copy)]
 pub struct ScriptHeader {
     pub ok: bool,
     pub key: [u8; 16],

@@ -126,7 +126,7 @@ pub fn has_space(kind: AreaKind, area: &[u8]) -> bool
 }
 
 // Where a name's slot is: its own, or, where the area does not hold the name, the one that it would take; the count of slots, where that is behind all.
-#[derive(Drop)]
+#[derive(Clone, Copy)]
 pub struct Found {
     pub at: usize,
     pub held: bool,

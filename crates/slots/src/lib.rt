@@ -6,7 +6,7 @@ pub mod names;
 pub mod slot;
 
 // 01's "card" and "chip"
-#[derive(Drop)]
+#[derive(Clone, Copy)]
 pub enum AreaKind {
     Kv,
     Rbp,

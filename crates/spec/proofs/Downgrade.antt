@@ -109,7 +109,7 @@ entry_remains : (name rbp : List ℕ) (calls : List (List ℕ × Call))
     → lookup rbp_format (final box_step rbp calls) name ≡ lookup rbp_format rbp name
 entry_remains name rbp [] n = refl
 entry_remains name rbp (x ∷ calls) n =
-    entry_remains name _ calls (λ y m. n y (Memᴰ.tail m)) ∙ entry-left name x.0 rbp x.1 (n x (Memᴰ.head refl))
+    entry_remains name (box_step rbp x).after calls (λ y m. n y (Memᴰ.tail m)) ∙ entry-left name x.0 rbp x.1 (n x (Memᴰ.head refl))
 
 old_card_later : OldCardLater
 unfolding store_set

@@ -1,7 +1,7 @@
 -- The premises of demand 3 can be met, and what the two clients of the instance are then answered.
 use mathlib.Core.Path.{◌≡◌, refl}
 use mathlib.Core.Bool.{true, not}
-use mathlib.Core.List.{List, ◌∷◌, map, flatten, Memᴰ}
+use mathlib.Core.List.{List, [], ◌∷◌, map, flatten, Memᴰ}
 use lib.ListN.{replicate}
 use native.Mathlib.Omega.{arith}
 use Rattle.buffers.specs.Bytes.{every}
@@ -20,6 +20,7 @@ use Rattle.spec.proofs.Isolation.{client_isolation}
 
 -- lists without a common name, by a test
 apart : (ns ms : List Name) → every (λ n. not (member n ms)) ns ≡ true → (n : Name) → Memᴰ n ns → Memᴰ n ms → ⊥
+apart [] ms h n m j = elim m [ ]
 apart (x ∷ ns) ms h n (Memᴰ.head e) j =
     clash (member x ms) (in_member x ms (rw e at j)) (not_true_is (member x ms) (both (not (member x ms)) (every (λ n. not (member n ms)) ns) h).0)
 apart (x ∷ ns) ms h n (Memᴰ.tail k) j = apart ns ms (both (not (member x ms)) (every (λ n. not (member n ms)) ns) h).1 n k j

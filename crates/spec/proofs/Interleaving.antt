@@ -26,6 +26,7 @@ module _ {Call : Type 0} where
 
   -- a call of a client is in that client's part
   pub part_in : (mine : Side → Bool) (d : Side) (c : Call) (l : List (Tagged Call)) → Memᴰ (by d c) l → mine d ≡ true → Memᴰ c (part mine l)
+  part_in mine d c [] m h = elim m [ ]
   part_in mine d c (by e b ∷ l) (Memᴰ.head p) h =
       let q : mine e ≡ true = cc in
       let r : c ≡ b = cc in

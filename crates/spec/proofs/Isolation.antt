@@ -2,7 +2,7 @@
 use mathlib.Core.Path.{◌≡◌, refl, sym, ap, ◌∙◌}
 use mathlib.Core.Bool.{Bool, true, false}
 use mathlib.Core.List.Memᴰ
-use mathlib.Core.List.{List, ◌∷◌, ◌++◌, map, flatten, Memᴰ}
+use mathlib.Core.List.{List, [], ◌∷◌, ◌++◌, map, flatten, Memᴰ}
 use Prim.Native.Nat.{ℕ, ◌≤◌}
 use lib.ListN.{length}
 use Rattle.spec.specs.Name.{Name}
@@ -55,12 +55,14 @@ module _ (u v : List Name) (kv_size rbp_size : ℕ) (mine : Side → Bool) (Mine
 
 where_in : (t : Call → Bool) (c : Call) (cs : List Call) → Memᴰ c cs → t c ≡ true → Memᴰ (call_name c) (names_where t cs)
 unfolding flatten
+where_in t c [] m h = elim m [ ]
 where_in t c (b ∷ cs) (Memᴰ.head e) h =
     let p : t b ≡ true = rw e at h in
     rw p (Memᴰ.head (ap call_name e))
 where_in t c (b ∷ cs) (Memᴰ.tail m) h = split (t b) (λ e. rw e (Memᴰ.tail (where_in t c cs m h))) (λ e. rw e (where_in t c cs m h))
 
 name_in : (c : Call) (cs : List Call) → Memᴰ c cs → Names cs (call_name c)
+name_in c [] m = elim m [ ]
 name_in c (b ∷ cs) (Memᴰ.head e) = Memᴰ.head (ap call_name e)
 name_in c (b ∷ cs) (Memᴰ.tail m) = Memᴰ.tail (name_in c cs m)
 

@@ -26,16 +26,19 @@ module _ {S : Type 0} where
 -- a list without one of its elements
 module _ {A : Type 0} where
   without : {a : A} (l : List A) → Memᴰ a l → List A
+  without {a = a} [] m = elim m [ ]
   without (x ∷ xs) (Memᴰ.head e) = xs
   without (x ∷ xs) (Memᴰ.tail m) = x ∷ without xs m
 
   length_without : {a : A} (l : List A) (m : Memᴰ a l) → length l ≡ suc (length (without l m))
   unfolding without
+  length_without {a = a} [] m = elim m [ ]
   length_without (x ∷ xs) (Memᴰ.head e) = refl
   length_without (x ∷ xs) (Memᴰ.tail m) = ap suc (length_without xs m)
 
   still : {a b : A} (l : List A) (m : Memᴰ a l) → b ≢ a → Memᴰ b l → Memᴰ b (without l m)
   unfolding without
+  still {a = a} {b = b} [] m h k = elim m [ ]
   still (x ∷ xs) (Memᴰ.head e) h (Memᴰ.head f) = absurd (h (f ∙ sym e))
   still (x ∷ xs) (Memᴰ.head e) h (Memᴰ.tail k) = k
   still (x ∷ xs) (Memᴰ.tail m) h (Memᴰ.head f) = Memᴰ.head f

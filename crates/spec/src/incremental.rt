@@ -1,5 +1,5 @@
 // The running state of a set that arrives in chunks. Whoever holds it may change any of it, so no call relies on what another left there.
-#[derive(Drop)]
+#[derive(Clone, Copy)]
 pub struct IncSetHandle {
     // Zero behind the name.
     pub name: [u8; 64],

@@ -11,7 +11,7 @@ use slots::{AreaKind, areas};
 use spec::incremental::IncSetHandle;
 
 // A call's status, and the handle for the next one.
-#[derive(Drop)]
+#[derive(Clone, Copy)]
 pub struct SetProgress {
     pub status: u32,
     pub handle: IncSetHandle,

@@ -8,7 +8,7 @@ use records::flags as flag;
 use slots::areas::Found;
 
 // A call's status, and where the name's slots on card and chip are, once the tests before the look-up have passed.
-#[derive(Drop)]
+#[derive(Clone, Copy)]
 pub struct Judged {
     pub status: u32,
     pub found: Found,

@@ -6,7 +6,7 @@ ghost use Rattle.text.specs.Written.{answer, left};
 use crate::hex::{Coded, refused};
 
 // What was read. A refusal has the value 0, so that the value is never over what was asked.
-#[derive(Drop)]
+#[derive(Clone, Copy)]
 pub struct Decimal {
     pub ok: bool,
     pub value: u64,

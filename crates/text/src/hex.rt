@@ -5,7 +5,7 @@ ghost use Rattle.text.specs.Written.{coded, answer, left};
 
 // What a writer answers: whether it wrote, and how many bytes. A refusal has written none. The first two clauses of a writer's contract say all; the
 // third follows from them, so that a caller can take `&out[0..count]` without a proof.
-#[derive(Drop)]
+#[derive(Clone, Copy)]
 pub struct Coded {
     pub ok: bool,
     pub count: usize,

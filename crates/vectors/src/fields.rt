@@ -10,7 +10,7 @@ use text::parts::{field, line};
 pub const LONGEST: usize = 160;
 
 // The bytes of a field, and zeros after them.
-#[derive(Drop)]
+#[derive(Clone, Copy)]
 pub struct Bytes {
     pub ok: bool,
     pub size: usize,

@@ -2,7 +2,7 @@
 use std::num::wrapping_add_u64;
 
 // Sums wrap so that no bound has to be carried: no run comes near 2^64 trials.
-#[derive(Drop)]
+#[derive(Clone, Copy)]
 pub struct Tally {
     pub passed: u64,
     pub tried: u64,

@@ -1,0 +1,8 @@
+-- `cipher::aes::mix_entry` gives the entry of the table for b, a word of four bytes.
+use Rattle.cipher.specs.Sbox.{sub_byte}
+use Rattle.cipher.proofs.Mix.{sub-lt, mix-at, number-entry}
+use Rattle.cipher.proofs.aes.mix_entry.Goals as goal
+
+pub returns : goal.returns
+returns c =
+    let b = c.args.b in rw (c.requires.0, mix-at b c.requires.1) (number-entry (sub_byte b) (sub-lt b))

@@ -1,0 +1,23 @@
+-- `cipher::ctr::next_shared`: made anew where the low word of the count is 0, else the high word is the same.
+use Rattle.std.proofs.Common.{◌≡◌, ℕ, ◌+◌, ◌/◌, ◌%◌, ◌^◌, ap, ◌∙◌, arith, w8}
+use borrow.Kind.Array.{e_int, good_length}
+use Rattle.cipher.specs.Aes.{kept_key, state_of}
+use Rattle.cipher.specs.Ctr.{counter_block}
+use Rattle.cipher.specs.FirstRound.{shared_round}
+use Rattle.cipher.proofs.Stream.{same-high, shared-next}
+use Rattle.cipher.proofs.ctr.next_shared.Goals as goal
+
+pub returns-then-next-eq0 : goal.returns-then-next-eq0
+returns-then-next-eq0 c =
+    let a = c.args in
+    c.shared_round.ensures
+    ∙ ap (shared_round (kept_key a.keys.now))
+    (c.counter_columns.ensures ∙ ap (λ (k : ℕ). state_of (counter_block a.iv k)) c.wrapping_add_u64-next.ensures.value)
+
+pub returns : goal.returns
+returns c =
+    let a = c.args in
+    let sized = good_length (e_int w8) 8 a.iv _ c.well_formed.1.1.0 in
+    let next : _ ≡ (a.count + 1) % 2 ^ 64 = c.wrapping_add_u64-next.ensures.value in
+    let same = same-high a.count _ c.ranges.count.fits next (omega arith) in
+    c.requires.1 ∙ shared-next (kept_key a.keys.now) a.iv a.count _ sized (same ∙ ap (λ (k : ℕ). k / 2 ^ 32) next)

@@ -1,0 +1,37 @@
+-- `cipher::kdf::kdf_counter_cmac`: a state is made for the key, fed four times and finished, which `OneShot` is about.
+use Rattle.std.proofs.Common.{◌≡◌, ℕ, List, [], ◌∷◌, sym, ap, ◌∙◌, ap₂, w8}
+use Rattle.cipher.specs.declared.cmac.CmacState.{CmacState}
+use Rattle.cipher.specs.CmacState.{keyed, begun, fed, finished}
+use Rattle.cipher.specs.Pending.{state_with, none_pending}
+use Rattle.cipher.proofs.Arrays.{array_fits}
+use Rattle.cipher.proofs.Tag.{one-shot-law}
+use Rattle.cipher.proofs.kdf.kdf_counter_cmac.Goals as goal
+
+pub absorb-end-requires : goal.absorb-end-requires
+absorb-end-requires c =
+    c.mix_table-t.ensures
+
+pub zero_block-requires : goal.zero_block-requires
+zero_block-requires c =
+    c.mix_table-t.ensures
+
+pub close-requires : goal.close-requires
+close-requires c =
+    (c.mix_table-t.ensures, c.zero_block.ensures)
+
+pub returns : goal.returns
+unfolding begun keyed state_with none_pending
+returns c =
+    let key = c.args.key in
+    let a = c.args.first.now in
+    let b = c.args.second.now in
+    let counted = fed (keyed key) (1 ∷ []) in
+    let labelled = fed (fed counted a) b in
+    let end : List ℕ = 0 ∷ 0 ∷ 0 ∷ 0 ∷ 0x80 ∷ [] in
+    let e₀ : state_with c.none_pending.result _ ≡ keyed key = ap₂ state_with c.none_pending.ensures c.expand_into.ensures in
+    let e₁ : state_with c.absorb-start.result _ ≡ counted = c.absorb-start.ensures ∙ ap (λ (s : CmacState). fed s (1 ∷ [])) e₀ in
+    let e₂ : state_with c.absorb.result _ ≡ fed counted a = c.absorb.ensures ∙ ap (λ (s : CmacState). fed s a) e₁ in
+    let e₃ : state_with c.absorb-label.result _ ≡ labelled = c.absorb-label.ensures ∙ ap (λ (s : CmacState). fed s b) e₂ in
+    let e₄ : state_with c.absorb-end.result _ ≡ fed labelled end = c.absorb-end.ensures ∙ ap (λ (s : CmacState). fed s end) e₃ in
+    c.close.ensures ∙ ap (λ (s : CmacState). (finished s).block) e₄
+    ∙ sym (one-shot-law.label key (array_fits w8 16 key _ c.well_formed.0) a b)
