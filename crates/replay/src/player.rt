@@ -99,10 +99,7 @@ fn play_unreadable<R: Copy, W: io::Write + Copy>(
 }
 
 // What is left is written.
-fn finish<R: Copy, W: io::Write + Copy>(
-    s: Stream<R, W>,
-    answers: &[u8; BUFFER_SIZE],
-) -> u32
+fn finish<R: Copy, W: io::Write + Copy>(s: Stream<R, W>, answers: &[u8; BUFFER_SIZE]) -> u32
     requires { Bounded s }
     ensures { result ≤ 2 }
 {

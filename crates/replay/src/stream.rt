@@ -83,10 +83,7 @@ pub(crate) fn flush<R: Copy, W: io::Write + Copy>(
     }
 }
 
-fn read<R: io::Read + Copy, W: Copy>(
-    s: Stream<R, W>,
-    chunk: &mut [u8; BUFFER_SIZE],
-) -> Stream<R, W>
+fn read<R: io::Read + Copy, W: Copy>(s: Stream<R, W>, chunk: &mut [u8; BUFFER_SIZE]) -> Stream<R, W>
     requires { Bounded s }
     ensures bounded { Bounded result }
     ensures read { Read s result }
