@@ -45,7 +45,7 @@ fn copy_crypted(
     requires ready_for { ReadyFor flags mix.now sub.now device }
     ensures { dst.new ≡ sealed_data device.key name.now flags iv src.now }
 {
-    bytes::copy(src, dst);
+    dst.copy_from_slice(src);
     if flags::require_confidentiality(flags) {
         let key = cipher::kdf::derive_encryption_key(mix, device, name);
         cipher::ctr::crypt(mix, sub, key, iv, dst);

@@ -1,4 +1,5 @@
 pub mod Split
+pub mod ScanSteps
 pub mod PartSteps
 pub mod Written
 pub mod HexSteps

@@ -9,7 +9,7 @@ use borrow.Author.Tests.{eq-eqb, ne_eqb}
 use lib.Dec.{eqb}
 use lib.ListN.{length, get_or, take, drop}
 use lib.Seq.{drop-cons, take-length}
-use Rattle.bytes.specs.Bytes.{index_of, index_after, slice}
+use Rattle.text.specs.Scan.{index_of, slice}
 use Rattle.text.specs.Parts.{before, cut, parts, newline, lines, part_start}
 use Rattle.text.proofs.Split.{split}
 
@@ -77,7 +77,6 @@ part-first separator (x ∷ s) (suc k) = split (eqb x separator)
     (λ e. rw e (before-later x (parts separator s) k ∙ part-first separator s (suc k)))
 
 first_found : (separator : ℕ) (s : List ℕ) → take (index_of separator s) s ≡ get_or (parts separator s) 0 []
-unfolding index_of index_after
 first_found separator [] = refl
 first_found separator (x ∷ s) = split (eqb x separator)
     (λ e. rw e)
@@ -86,7 +85,6 @@ first_found separator (x ∷ s) = split (eqb x separator)
 -- what lies between the start and the separator that is found from there on
 pub part-found : (separator : ℕ) (s : List ℕ) (k from end : ℕ) → from ≡ part_start separator s k → end ≡ from + index_of separator (slice from (length s) s)
     → take (end - from) (drop from s) ≡ get_or (parts separator s) k []
-unfolding slice
 part-found separator s k from end p q =
     let rest : drop from (take (length s) s) ≡ drop from s = ap (drop from) (take-length s) in
     let n : end - from ≡ index_of separator (drop from s) = omega (arith, q, ap (index_of separator) rest) in

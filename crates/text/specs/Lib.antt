@@ -1,3 +1,4 @@
+pub mod Scan
 pub mod Parts
 pub mod Written
 pub mod Hex

@@ -21,7 +21,7 @@ pub(crate) fn refused() -> Coded
 }
 
 // The value of a digit, or 16 for any other byte.
-fn digit_value_lem(c: u8) -> u8
+fn digit_value(c: u8) -> u8
     ensures { result ≡ hex_value c }
 {
     if c < b'0' {
@@ -52,12 +52,12 @@ fn digit(d: u8) -> u8
     if d < 10 { b'0' + d } else { b'a' - 10 + d }
 }
 
-fn all_digits_lem(text: &[u8]) -> bool
+fn all_digits(text: &[u8]) -> bool
     ensures { result ≡ all_hex_digits text.now }
 {
     let mut i = 0;
     while i < text.len() {
-        if 15 < digit_value_lem(text[i]) {
+        if 15 < digit_value(text[i]) {
             return false;
         }
         i += 1;
@@ -71,7 +71,7 @@ fn put_pairs(text: &[u8], n: usize, out: &mut [u8])
 {
     let mut i = 0;
     while i < n {
-        out[i] = 16 * digit_value_lem(text[2 * i]) + digit_value_lem(text[2 * i + 1]);
+        out[i] = 16 * digit_value(text[2 * i]) + digit_value(text[2 * i + 1]);
         i += 1;
     }
 }

@@ -4,3 +4,4 @@
 pub mod decimal;
 pub mod hex;
 pub mod parts;
+pub mod scan;

@@ -2,6 +2,8 @@
 ghost use Rattle.std.specs.Prelude.{◌≡◌, [], length, get_or};
 ghost use Rattle.text.specs.Parts.{parts, lines, tab, newline, part_start, part_place};
 
+use crate::scan;
+
 pub const NEWLINE: u8 = b'\n';
 
 pub const TAB: u8 = b'\t';
@@ -44,7 +46,7 @@ pub fn part(s: &[u8], separator: u8, k: usize) -> &[u8]
     ensures { (result.now ≡ get_or (parts separator s.now) k []) × (result.ref_ptr ≡ part_place s.entry separator k) }
 {
     let from = part_start(s, separator, k);
-    let end = bytes::scan::find(s, from, s.len(), separator);
+    let end = scan::find(s, from, s.len(), separator);
     &s[from..end]
 }
 

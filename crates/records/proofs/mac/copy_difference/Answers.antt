@@ -1,0 +1,10 @@
+-- `records::mac::copy_difference`: the record's CMAC is its last sixteen bytes.
+use mathlib.Core.Path.{ap₂, ◌∙◌}
+use Rattle.buffers.specs.Compare.{diff_accumulate}
+use Rattle.records.proofs.mac.copy_difference.Goals as goal
+
+pub returns : goal.returns
+returns c =
+    let record-tag = c.record_tag-stored in
+    let array16 = c.array16-kept in
+    c.tag_difference.ensures ∙ ap₂ diff_accumulate array16.ensures record-tag.ensures

@@ -1,0 +1,29 @@
+-- `records::mac::mac_difference`: metadata and stored data are all but the last sixteen bytes.
+use mathlib.Core.Path.{sym, ap₂, ◌∙◌}
+use Prim.Native.Nat.{◌-◌}
+use native.Mathlib.Omega.{arith}
+use lib.ListN.{length}
+use lib.Seq.{length-take-le}
+use Rattle.buffers.specs.Compare.{diff_accumulate}
+use Rattle.spec.proofs.Record.{valid-record}
+use Rattle.records.proofs.Valid.{covered-cmac}
+use Rattle.records.proofs.mac.mac_difference.Goals as goal
+
+pub overflow_sub-end : goal.overflow_sub-end
+overflow_sub-end c =
+    let valid = valid-record c.args.r.now c.requires.r_value in
+    omega arith
+
+pub slice_bounds-record_cmac-end : goal.slice_bounds-record_cmac-end
+slice_bounds-record_cmac-end c =
+    let r = c.args.r.now in
+    sym (length-take-le (length r - 16) r (omega arith))
+
+pub returns : goal.returns
+returns c =
+    let record-tag = c.record_tag-stored in
+    let record-cmac = c.record_cmac-computed in
+    let args = c.args in
+    let r = args.r.now in
+    let cmac = record-cmac.ensures ∙ covered-cmac args.device.key args.name.now r (valid-record r c.requires.r_value) in
+    c.tag_difference.ensures ∙ ap₂ diff_accumulate cmac record-tag.ensures

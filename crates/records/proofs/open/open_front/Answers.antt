@@ -1,0 +1,35 @@
+-- `records::open::open_front`: the front of the stored data, which stand behind the metadata, becomes the front of the plaintext.
+use native.Mathlib.Omega.{arith}
+use lib.ListN.{length-take, length-drop}
+use Rattle.spec.proofs.Record.{valid-record}
+use Rattle.records.proofs.Sealed.{opened-steps}
+use Rattle.records.proofs.open.open_front.Goals as goal
+
+pub slice_bounds-array8-end : goal.slice_bounds-array8-end
+slice_bounds-array8-end c =
+    let valid = valid-record c.args.r.now c.requires.r_value in
+    omega arith
+
+pub slice_bounds-put_crypted-end : goal.slice_bounds-put_crypted-end
+slice_bounds-put_crypted-end c =
+    let valid = valid-record c.args.r.now c.requires.r_value in
+    omega arith
+
+pub put_crypted-requires : goal.put_crypted-requires
+put_crypted-requires c =
+    let record-flags = c.record_flags-flags in
+    record { src_in_bounds = simp (length-take, length-drop) (omega arith); ready_for = λ h. c.requires.ready_for (rw (← record-flags.ensures) h) }
+
+pub returns : goal.returns
+returns c =
+    let put-crypted = c.put_crypted in
+    let array8 = c.array8-iv in
+    let record-flags = c.record_flags-flags in
+    let fitting = c.fitting-n in
+    let args = c.args in
+    let r = args.r.now in
+    let valid = valid-record r c.requires.r_value in record {
+      value = fitting.ensures;
+      output_after = opened-steps args.device.key args.name.now r valid args.output.now _ _ _ fitting.result (omega arith)
+          record-flags.ensures array8.ensures put-crypted.ensures;
+    }

@@ -1,0 +1,19 @@
+// The first of a byte in a part of a text.
+ghost use Rattle.std.specs.Prelude.{◌≡◌, ◌+◌, ◌≤◌, length};
+ghost use Rattle.text.specs.Scan.{index_of, slice};
+
+// Where the byte stands first in `s[from..to]`, or to where it does not stand there.
+pub fn find(s: &[u8], from: usize, to: usize, byte: u8) -> usize
+    requires { (from ≤ to) × (to ≤ length s.now) }
+    ensures place { result ≡ from + index_of byte (slice from to s.now) }
+    ensures result_le_to { result ≤ to }
+{
+    let mut i = from;
+    while i < to {
+        if s[i] == byte {
+            return i;
+        }
+        i += 1;
+    }
+    i
+}
