@@ -8,4 +8,4 @@ use Rattle.edge_lines.proofs.floats.float_of.Goals as goal
 pub float_from_bits-result : goal.float_from_bits-result
 float_from_bits-result c =
     let n = c.args.bits in
-    subst (λ (b : Bool). T (not b)) (sym (nan_bits_above binary32 n)) (le→nltb 2139095040 (n % 2147483648) c.if1.true)
+    subst (λ (b : Bool). T (not b)) (sym (nan_bits_above binary32 n)) (le→nltb 2139095040 (n % 2147483648) c.if-bits-le2139095040.true)
