@@ -1,0 +1,27 @@
+-- `slots::slot::slot_has_prefix`: the state byte tells a free slot, else its name is tested.
+use mathlib.Core.Path.{◌∙◌}
+use native.Mathlib.Omega.{arith}
+use Rattle.spec.specs.Area.{kv_format}
+use Rattle.slots.proofs.SlotLaws.{blank-holder, state-holder, state-is-used}
+use Rattle.slots.proofs.slot.slot_has_prefix.Goals as goal
+
+pub bounds-slot-0 : goal.bounds-slot-0
+bounds-slot-0 c = omega arith
+
+pub returns-then-slot-eq0 : goal.returns-then-slot-eq0
+returns-then-slot-eq0 c =
+    let args = c.args in
+    let pre = c.requires in
+    rw (blank-holder kv_format args.slot.now pre.1 c.if-slot-eq0.true)
+
+pub slot_name-requires : goal.slot_name-requires
+slot_name-requires c =
+    let args = c.args in
+    let pre = c.requires in
+    (pre.0, state-is-used kv_format args.slot.now pre.1 c.if-slot-eq0.false)
+
+pub returns : goal.returns
+returns c =
+    let args = c.args in
+    let if1 = c.if-slot-eq0 in
+    c.has_prefix.ensures ∙ rw (state-holder kv_format args.slot.now if1.false, c.slot_name.ensures)
