@@ -43,7 +43,7 @@ pub extern "C" fn securestore_set_finalize(
     handle: &[u8; 88],
     staging: &[u8],
 ) -> u32
-    ensures { record { answer = record { status = result; numbers = []; output = [] }; after = record { kv = kv.exit.now; rbp = rbp.new } } ≡ Incremental.store_set_finalize kv.entry.now rbp.old device_key.now (Incremental.handle_of handle.now) staging.now }
+    ensures { record { answer = record { status = result; numbers = []; output = [] }; after = record { kv = kv.new; rbp = rbp.new } } ≡ Incremental.store_set_finalize kv.old rbp.old device_key.now (Incremental.handle_of handle.now) staging.now }
 {
     incremental::set_finalize(kv, rbp, device_key, handle::decode_handle(*handle), staging)
 }

@@ -46,7 +46,7 @@ pub extern "C" fn securestore_save_key(
     flags: u32,
     iv: &[u8],
 ) -> u32
-    ensures { record { answer = record { status = result; numbers = []; output = [] }; after = record { kv = kv.exit.now; rbp = rbp.new } } ≡ Keys.save_key kv.entry.now rbp.old device_key.now key_id (record { lifetime = lifetime; key_type = key_type; usage = usage; alg = alg; enrollment_alg = enrollment_alg }) material.now flags iv.now }
+    ensures { record { answer = record { status = result; numbers = []; output = [] }; after = record { kv = kv.new; rbp = rbp.new } } ≡ Keys.save_key kv.old rbp.old device_key.now key_id (record { lifetime = lifetime; key_type = key_type; usage = usage; alg = alg; enrollment_alg = enrollment_alg }) material.now flags iv.now }
 {
     let attributes = KeyAttributes {
         lifetime,
@@ -85,7 +85,7 @@ pub extern "C" fn securestore_parse_key_file(
     enrollment_alg: &mut u32,
     material_len: &mut u32,
 ) -> u32
-    ensures { record { status = result; attributes = record { lifetime = lifetime.exit.now; key_type = key_type.new; usage = usage.new; alg = alg.new; enrollment_alg = enrollment_alg.new }; material_len = material_len.new } ≡ parse_key_file file.now }
+    ensures { record { status = result; attributes = record { lifetime = lifetime.new; key_type = key_type.new; usage = usage.new; alg = alg.new; enrollment_alg = enrollment_alg.new }; material_len = material_len.new } ≡ parse_key_file file.now }
 {
     let answer = parse::parse_key_file(file);
     let read = answer.attributes;

@@ -15,7 +15,7 @@ pub extern "C" fn securestore_store_mix(
     iv: &[u8],
     mix: &[u8],
 ) -> u32
-    ensures { record { answer = record { status = result; numbers = []; output = [] }; after = record { kv = kv.exit.now; rbp = rbp.new } } ≡ Mixes.store_encoded_mix kv.entry.now rbp.old device_key.now name.now flags iv.now mix.now }
+    ensures { record { answer = record { status = result; numbers = []; output = [] }; after = record { kv = kv.new; rbp = rbp.new } } ≡ Mixes.store_encoded_mix kv.old rbp.old device_key.now name.now flags iv.now mix.now }
 {
     persist::store_encoded_mix(kv, rbp, device_key, name, flags, iv, mix)
 }
@@ -61,7 +61,7 @@ pub extern "C" fn securestore_decode_mix(
     pans: &mut [f32],
     sends: &mut usize,
 ) -> u32
-    ensures { record { status = result; session = session_id.new; count = sends.new; arrays = record { tags = tags.exit.now; levels = levels.new; pans = pans.new } } ≡ Arrays.decode_sends mix.now (record { tags = tags.entry.now; levels = levels.old; pans = pans.old }) }
+    ensures { record { status = result; session = session_id.new; count = sends.new; arrays = record { tags = tags.new; levels = levels.new; pans = pans.new } } ≡ Arrays.decode_sends mix.now (record { tags = tags.old; levels = levels.old; pans = pans.old }) }
 {
     let answer = arrays::decode_sends(mix, tags, levels, pans);
     *session_id = answer.session_id;

@@ -14,7 +14,7 @@ pub extern "C" fn securestore_set(
     iv: &[u8],
     data: &[u8],
 ) -> u32
-    ensures { record { answer = record { status = result; numbers = []; output = [] }; after = record { kv = kv.exit.now; rbp = rbp.new } } ≡ Calls.store_set kv.entry.now rbp.old device_key.now name.now flags iv.now «data».now }
+    ensures { record { answer = record { status = result; numbers = []; output = [] }; after = record { kv = kv.new; rbp = rbp.new } } ≡ Calls.store_set kv.old rbp.old device_key.now name.now flags iv.now «data».now }
 {
     set::set(kv, rbp, device_key, name, flags, iv, data)
 }
@@ -55,14 +55,14 @@ pub extern "C" fn securestore_get_info(
 
 #[unsafe(no_mangle)]
 pub extern "C" fn securestore_remove(kv: &mut [u8], rbp: &mut [u8], name: &[u8]) -> u32
-    ensures { record { answer = record { status = result; numbers = []; output = [] }; after = record { kv = kv.exit.now; rbp = rbp.new } } ≡ Calls.store_remove kv.entry.now rbp.old name.now }
+    ensures { record { answer = record { status = result; numbers = []; output = [] }; after = record { kv = kv.new; rbp = rbp.new } } ≡ Calls.store_remove kv.old rbp.old name.now }
 {
     remove::remove(kv, rbp, name)
 }
 
 #[unsafe(no_mangle)]
 pub extern "C" fn securestore_reset(kv: &mut [u8], rbp: &mut [u8]) -> u32
-    ensures { record { answer = record { status = result; numbers = []; output = [] }; after = record { kv = kv.exit.now; rbp = rbp.new } } ≡ Calls.store_reset kv.entry.now rbp.old }
+    ensures { record { answer = record { status = result; numbers = []; output = [] }; after = record { kv = kv.new; rbp = rbp.new } } ≡ Calls.store_reset kv.old rbp.old }
 {
     reset::reset(kv, rbp)
 }

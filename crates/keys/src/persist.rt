@@ -20,7 +20,7 @@ fn set_key(
     iv: &[u8],
     file: &[u8],
 ) -> u32
-    ensures { record { answer = record { status = result; numbers = []; output = [] }; after = record { kv = kv.exit.now; rbp = rbp.new } } ≡ store_set kv.entry.now rbp.old device_key.now (key_name key_id) flags iv.now file.now }
+    ensures { record { answer = record { status = result; numbers = []; output = [] }; after = record { kv = kv.new; rbp = rbp.new } } ≡ store_set kv.old rbp.old device_key.now (key_name key_id) flags iv.now file.now }
 {
     let digits = key_name::key_digits(key_id);
     let name_len = key_name::key_name_len(key_id);
@@ -46,7 +46,7 @@ pub fn save_persistent_key(
     flags: u32,
     iv: &[u8],
 ) -> u32
-    ensures { record { answer = record { status = result; numbers = []; output = [] }; after = record { kv = kv.exit.now; rbp = rbp.new } } ≡ save_key kv.entry.now rbp.old device_key.now key_id attributes material.now flags iv.now }
+    ensures { record { answer = record { status = result; numbers = []; output = [] }; after = record { kv = kv.new; rbp = rbp.new } } ≡ save_key kv.old rbp.old device_key.now key_id attributes material.now flags iv.now }
 {
     if key_file::MAX_KEY_MATERIAL < material.len() {
         return status::ERR_INVALID_KEY_FILE;

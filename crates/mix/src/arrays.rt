@@ -114,7 +114,7 @@ fn send_pan(send: AuxSend) -> f32
 // The arrays' fronts are written; what stands behind the mix's sends is as before.
 fn spread(mix: MonitorMix, tags: &mut [u8], levels: &mut [f32], pans: &mut [f32])
     requires { (mix.count ≤ 16) × (16 ≤ length tags.old) × (16 ≤ length levels.old) × (16 ≤ length pans.old) }
-    ensures { record { tags = tags.exit.now; levels = levels.new; pans = pans.new } ≡ spread_over mix (record { tags = tags.entry.now; levels = levels.old; pans = pans.old }) }
+    ensures { record { tags = tags.new; levels = levels.new; pans = pans.new } ≡ spread_over mix (record { tags = tags.old; levels = levels.old; pans = pans.old }) }
 {
     let sends = mix.sends;
     let count = mix.count as usize;
@@ -148,7 +148,7 @@ fn not_decoded(status: u32) -> Decoded
 }
 
 pub fn decode_sends(b: &[u8], tags: &mut [u8], levels: &mut [f32], pans: &mut [f32]) -> Decoded
-    ensures { record { status = result.status; session = result.session_id; count = result.count; arrays = record { tags = tags.exit.now; levels = levels.new; pans = pans.new } } ≡ decode_sends b.now (record { tags = tags.entry.now; levels = levels.old; pans = pans.old }) }
+    ensures { record { status = result.status; session = result.session_id; count = result.count; arrays = record { tags = tags.new; levels = levels.new; pans = pans.new } } ≡ decode_sends b.now (record { tags = tags.old; levels = levels.old; pans = pans.old }) }
 {
     if tags.len() < monitor::MAX_SENDS {
         return not_decoded(status::ERR_LENGTH);

@@ -28,7 +28,7 @@ fn store_if_valid(
     valid: bool,
     mix: &[u8],
 ) -> u32
-    ensures { record { answer = record { status = result; numbers = []; output = [] }; after = record { kv = kv.exit.now; rbp = rbp.new } } ≡ store_if_valid kv.entry.now rbp.old device_key.now name.now flags iv.now valid mix.now }
+    ensures { record { answer = record { status = result; numbers = []; output = [] }; after = record { kv = kv.new; rbp = rbp.new } } ≡ store_if_valid kv.old rbp.old device_key.now name.now flags iv.now valid mix.now }
 {
     if !valid {
         return status::ERR_INVALID_MIX;
@@ -49,7 +49,7 @@ pub fn store_encoded_mix(
     iv: &[u8],
     mix: &[u8],
 ) -> u32
-    ensures { record { answer = record { status = result; numbers = []; output = [] }; after = record { kv = kv.exit.now; rbp = rbp.new } } ≡ store_encoded_mix kv.entry.now rbp.old device_key.now name.now flags iv.now mix.now }
+    ensures { record { answer = record { status = result; numbers = []; output = [] }; after = record { kv = kv.new; rbp = rbp.new } } ≡ store_encoded_mix kv.old rbp.old device_key.now name.now flags iv.now mix.now }
 {
     let valid = codec::mix_valid(mix);
     store_if_valid(kv, rbp, device_key, name, flags, iv, valid, mix)
@@ -64,7 +64,7 @@ pub fn store_mix(
     iv: &[u8],
     mix: MonitorMix,
 ) -> u32
-    ensures { record { answer = record { status = result; numbers = []; output = [] }; after = record { kv = kv.exit.now; rbp = rbp.new } } ≡ store_mix kv.entry.now rbp.old device_key.now name.now flags iv.now mix }
+    ensures { record { answer = record { status = result; numbers = []; output = [] }; after = record { kv = kv.new; rbp = rbp.new } } ≡ store_mix kv.old rbp.old device_key.now name.now flags iv.now mix }
 {
     if !codec::mix_in_range(mix) {
         return status::ERR_INVALID_MIX;

@@ -1,11 +1,11 @@
 -- 01, "Card and chip": an area of 1 to 64 slots, each free or used by one name. One theory for both, over a format. `kv` is 01's card, SecureStore's
 -- underlying key-value store; `rbp` is 01's chip, its rollback protection.
---   Format, kv_format, rbp_format                where the parts of a slot stand: 01's place and entry
---   slot_free, slot_used, slot_valid, slot_holder  a slot that is free, used, well shaped; the name that uses it
---   slot_name, slot_payload, make_slot            what is read from a slot, and a slot made
---   slots, sized, names, intact                an area's slots; of right length; the names in it; without damage
---   slot_of, lookup, has_space                   what it holds for a name; whether a slot is free
---   insert_slot, erase_slot, Edit, edit_area      a name's slot written, or taken out
+--   Format, kv_format, rbp_format                   where the parts of a slot stand: 01's place and entry
+--   slot_free, slot_used, slot_valid, slot_holder   a slot that is free, used, well shaped; the name that uses it
+--   slot_name, slot_payload, make_slot              what is read from a slot, and a slot made
+--   slots, sized, names, intact                     an area's slots; of right length; the names in it; without damage
+--   slot_of, lookup, has_space                      what it holds for a name; whether a slot is free
+--   insert_slot, erase_slot, Edit, edit_area        a name's slot written, or taken out
 use Rattle.std.specs.Prelude.{Bool, cond, ◌&&◌, ◌||◌, List, [], ◌∷◌, ◌++◌, ℕ, ◌+◌, ◌-◌, ◌*◌, ◌/◌, eqb, leb, length, get_or, take, drop}
 use Rattle.std.proofs.Math.Option.{Option, none, some}
 use Rattle.buffers.specs.Bytes.{every, any, zeros, all_zero, zero_fill, le_bytes, u16_at}

@@ -1,7 +1,7 @@
 -- 01's calls, as total functions of what is lent: the answer, and card and chip after it.
---   Areas, store_world                     card and chip as lent, and as what keeps the names
---   store_set .. store_remove               the calls on a name
---   store_reset                            reset
+--   Areas, store_world                                card and chip as lent, and as what keeps the names
+--   store_set .. store_remove                         the calls on a name
+--   store_reset                                       reset
 --   next_match, iterator_tests, store_iterator_next   01: "walk"
 use Rattle.std.specs.Prelude.{Bool, false, not, List, [], ◌∷◌, ◌++◌, ℕ, suc, ◌+◌, leb, ltb, length, get_or, take, drop}
 use Rattle.std.proofs.Math.Option.{Option, none, some}

@@ -1,10 +1,10 @@
 -- What a call on a name decides from what the name has, from its arguments and, a set, from room: its tests in order, and what it does and gives.
 --   downgraded                           02, No. 4: a record that disowns its protection
---   set_tests, get_tests, remove_tests      01's tests from 3 on, as 02 changes them, with their numbers, in their order: of the arguments, of what the name
+--   set_tests, get_tests, remove_tests   01's tests from 3 on, as 02 changes them, with their numbers, in their order: of the arguments, of what the name
 --                                        has (set_held ..), and a set's of room (space_tests)
---   set_effect, remove_effect              what a done call does to what the name has
---   read_count, read_output                what a get gives of a record
---   set_request .. remove_request          the calls
+--   set_effect, remove_effect            what a done call does to what the name has
+--   read_count, read_output              what a get gives of a record
+--   set_request .. remove_request        the calls
 -- `protected` says whether a record with given flags is to have a CMAC in the chip: flag 8, where there is a chip. Where there is none, no name has one.
 use Rattle.std.specs.Prelude.{Bool, false, cond, not, ◌&&◌, ◌||◌, List, [], ◌∷◌, ◌++◌, ℕ, ◌-◌, min, eqb, leb, length, take, drop}
 use Rattle.std.proofs.Math.Option.{Option, none, some}

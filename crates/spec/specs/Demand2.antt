@@ -1,11 +1,11 @@
 -- Demand 2, from every card and chip: each call answers 0 exactly under the conditions that 01 and 02 name, and what it then gives and leaves.
---   Exact                                     the one form: a condition for 0, and what it then is
---   Readable, opened, Reads                   get and info
---   Settable, record_made, Changed, Placed     set: the conditions; what it makes; what an area holds then; where it stands
---   RoundTrip                                 what an accepted set stored, the next get returns whole
---   Removable, ClosedUp                       remove: the conditions; what is left of the area
---   Iterable, WalkInOrder                     walk: the conditions; that it goes in order
---   Refuses, Refusals                         which number it is where it is not 0
+--   Exact                                    the one form: a condition for 0, and what it then is
+--   Readable, opened, Reads                  get and info
+--   Settable, record_made, Changed, Placed   set: the conditions; what it makes; what an area holds then; where it stands
+--   RoundTrip                                what an accepted set stored, the next get returns whole
+--   Removable, ClosedUp                      remove: the conditions; what is left of the area
+--   Iterable, WalkInOrder                    walk: the conditions; that it goes in order
+--   Refuses, Refusals                        which number it is where it is not 0
 use Rattle.std.specs.Prelude.{◌≡◌, ◌≢◌, ◌↔◌, true, false, cond, not, ◌&&◌, ◌||◌, List, [], ◌∷◌, ◌++◌, ℕ, suc, ◌+◌, ◌-◌, ◌*◌, ◌≤◌, ◌<◌, min, eqb, leb, length, get_or, take, drop}
 use Rattle.std.proofs.Math.Option.{Option, none, some}
 use Rattle.cipher.specs.Cmac.{cmac}

@@ -1,9 +1,9 @@
 -- Demand 3: two clients that share no name do not see each other, and how their calls are merged makes no difference to card and chip. One claim about whole
 -- lists.
 --   Names, names_where, RoomFor, IsolationPremise   what is asked of the start and of the two lists
---   Isolated, ClientIsolation                      the claim
---   StepIsCall, ModelExact                         the steps are the calls; the reference model keeps demand 2's rules
---   Instance                                       two merges that meet the premise, and what is answered and left
+--   Isolated, ClientIsolation                       the claim
+--   StepIsCall, ModelExact                          the steps are the calls; the reference model keeps demand 2's rules
+--   Instance                                        two merges that meet the premise, and what is answered and left
 use Rattle.std.specs.Prelude.{◌≡◌, ◌≢◌, Bool, true, false, cond, not, ◌&&◌, ℕ, ◌-◌, ◌≤◌, min, eqb, leb, length, take, drop, replicate}
 use mathlib.Core.List.{List, [], ◌∷◌, ◌++◌, map, flatten, Memᴰ}
 use Rattle.std.proofs.Math.Option.{none, some}

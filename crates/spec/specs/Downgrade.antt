@@ -1,10 +1,10 @@
 -- 02, No. 4, "A record that disowns its protection": what an entry of the chip gives for its name, whatever card is put in.
---   Vouched            the card's record of a name: it has flag 8, it verifies, and its CMAC is the chip's entry
---   OldCardRefused     of a name that the chip holds no other record is given out
---   OldCardLater       so after a done set with flag 8 none but one with that set's CMAC, until the name is set or removed again
---   EntryKept          what a remove of a record without flag 8 leaves
---   EntryLost          what alone takes an entry out of the chip
---   plants, Planted    the bench's plant in numbers: what the definitions give and what the papers say
+--   Vouched           the card's record of a name: it has flag 8, it verifies, and its CMAC is the chip's entry
+--   OldCardRefused    of a name that the chip holds no other record is given out
+--   OldCardLater      so after a done set with flag 8 none but one with that set's CMAC, until the name is set or removed again
+--   EntryKept         what a remove of a record without flag 8 leaves
+--   EntryLost         what alone takes an entry out of the chip
+--   plants, Planted   the bench's plant in numbers: what the definitions give and what the papers say
 use Rattle.std.specs.Prelude.{◌≡◌, ◌≢◌, true, false, ℕ, length, replicate}
 use mathlib.Core.List.{List, [], ◌∷◌, ◌++◌, map, Memᴰ}
 use Rattle.std.proofs.Math.Option.{none, some}

@@ -1,10 +1,10 @@
 -- 02, No. 2: a set that arrives in chunks ("packets"). A handle ("running state") and a staging buffer ("holding buffer") keep what has come.
---   handle_name, staged_data                             the name that a handle gives, and the data that are held
---   staging_sized, name_fits, handle_tests                the tests of the staging buffer's length, and of a handle
+--   handle_name, staged_data                               the name that a handle gives, and the data that are held
+--   staging_sized, name_fits, handle_tests                 the tests of the staging buffer's length, and of a handle
 --   zero_handle, start_tests, new_handle, set_start        02: "begin"
---   Staged, staged, add_tests, advanced, set_add_data     02: "feed"; handle and staging buffer after it
+--   Staged, staged, add_tests, advanced, set_add_data      02: "feed"; handle and staging buffer after it
 --   finalize_tests, finalize_request, store_set_finalize   02: "finish"
---   handle_bytes, handle_of                              a handle in 88 bytes, and read from them
+--   handle_bytes, handle_of                                a handle in 88 bytes, and read from them
 use Rattle.std.specs.Prelude.{Bool, not, ◌&&◌, List, [], ◌∷◌, ◌++◌, ℕ, ◌+◌, eqb, leb, length, take, drop}
 use Rattle.buffers.specs.Bytes.{zeros, zero_fill, le_bytes, u32_at, put_at}
 use Rattle.spec.specs.Status.{Test, ◌when◌, first_of, on_ok, Answer, answer_of}

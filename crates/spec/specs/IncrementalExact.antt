@@ -1,9 +1,9 @@
 -- Demand 2 for a set that arrives in chunks, and that it makes no difference how the data were divided.
---   Startable, StartExact                     begin
---   Addable, AddExact                         feed
---   Complete, Finalizable, FinalizeExact      finish
+--   Startable, StartExact                      begin
+--   Addable, AddExact                          feed
+--   Complete, Finalizable, FinalizeExact       finish
 --   add_step, taken, Divided, HoweverDivided   any chunks, one after another, then a finish
---   HandleFits, HandleLayout, HandleNumerals  a handle's bytes
+--   HandleFits, HandleLayout, HandleNumerals   a handle's bytes
 use Rattle.std.specs.Prelude.{◌≡◌, ◌≢◌, true, cond, not, ℕ, ◌+◌, ◌-◌, ◌^◌, ◌≤◌, ◌<◌, eqb, leb, length, take, drop, replicate}
 use mathlib.Core.List.{List, [], ◌∷◌, ◌++◌, flatten}
 use Rattle.buffers.specs.Bytes.{le_bytes}

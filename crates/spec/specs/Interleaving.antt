@@ -2,7 +2,7 @@
 --   Side, Tagged, lefts, rights   a call with its client; each client's part of a list
 --   Interleaving                  a merge of two lists
 --   Outcome, answers, final       one step's answer and state; those of a list of calls
---   shared_step                    the step of a merge
+--   shared_step                   the step of a merge
 use Rattle.std.specs.Prelude.{◌≡◌, Bool, true, false, cond, List, [], ◌∷◌}
 
 pub data Side : Type 0 where

@@ -1,9 +1,9 @@
 -- 01, "The book of demand 3": the reference model. It has no slots and no room: for each name a record or none, and a CMAC or none, in two finite
 -- tables. Its steps run the same requests as the store's calls; of areas they know nothing.
---   Call, request_of, call_name     a call on a name, as a request, and its name
---   Item, table_lookup, table_edit  a finite table
---   Model, model_of, model_world    two tables; those of a card and a chip; what keeps the names
---   model_step, store_step          a call on the model; a call on card and chip
+--   Call, request_of, call_name      a call on a name, as a request, and its name
+--   Item, table_lookup, table_edit   a finite table
+--   Model, model_of, model_world     two tables; those of a card and a chip; what keeps the names
+--   model_step, store_step           a call on the model; a call on card and chip
 use Rattle.std.specs.Prelude.{true, cond, List, [], ◌∷◌, ℕ}
 use Rattle.std.proofs.Math.Option.{Option, none, some}
 use Rattle.buffers.specs.Bytes.{bytes_eq}

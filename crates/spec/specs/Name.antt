@@ -1,6 +1,6 @@
 -- Names.
 --   valid_name_byte, valid_name, valid_prefix   01: "A good name has 1 to 64 bytes", and which bytes 02, No. 1, lets it hold; a walk's prefix
---   hex_digits, key_name                      the name that a key is kept under
+--   hex_digits, key_name                        the name that a key is kept under
 use Rattle.std.specs.Prelude.{Bool, cond, ◌&&◌, ◌||◌, List, [], ◌∷◌, ◌++◌, ℕ, zero, suc, ◌+◌, ◌/◌, ◌%◌, leb, ltb, length}
 use Rattle.buffers.specs.Bytes.{every}
 

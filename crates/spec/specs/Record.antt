@@ -1,8 +1,8 @@
 -- 01, "The record": metadata (20 bytes), the stored data, 16 bytes of CMAC.
 --   write_once .. require_replay_protection, valid_flags   the flags of a record, and which are good
---   metadata, seal_record, Sealable                     what a set makes of its arguments; what it has tested of them
---   metadata_size_of .. tag_of                            the parts of a record, which is the bytes that a record length counts
---   well_formed, mac_ok, plaintext                       the tests of a record, and its data
+--   metadata, seal_record, Sealable                        what a set makes of its arguments; what it has tested of them
+--   metadata_size_of .. tag_of                             the parts of a record, which is the bytes that a record length counts
+--   well_formed, mac_ok, plaintext                         the tests of a record, and its data
 -- Which revision is written and which are read is decided here alone.
 use Rattle.std.specs.Prelude.{◌≡◌, Bool, true, cond, not, ◌&&◌, ◌||◌, List, ◌++◌, ℕ, ◌+◌, ◌-◌, ◌/◌, ◌%◌, ◌≤◌, eqb, leb, ltb, length, take, drop}
 use Rattle.cipher.specs.Cmac.{cmac}

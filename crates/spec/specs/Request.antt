@@ -2,7 +2,7 @@
 --   Binding, Room, Effect   what the name has; whether there is room for more; what a call does to what the name has
 --   Request                 a call: its own tests, and what it does and gives where none of them says so
 --   World                   what keeps the names: the tests that it makes itself, what a name has, room, and edits
---   status_of, run           a request in a world
+--   status_of, run          a request in a world
 use Rattle.std.specs.Prelude.{Bool, List, ◌++◌, ℕ}
 use Rattle.std.proofs.Math.Option.{Option}
 use Rattle.spec.specs.Status.{Test, first_of, on_ok, Answer, answer_of}

@@ -1,10 +1,10 @@
 -- 01's tests of one thing, and the parts that are read from it, from its layout in bytes.
---   NameBytes, FlagShape, Multiple   the bytes of a good name, the flags, a right length
---   WellFormed, RecordShape          a record that is well formed, and what is read from it
---   UsedPlace, UsedEntry, SlotShape  a used slot, and what is read from it
---   NoDamage, Once                   an area without damage; that no name is in it twice
---   SlotHeld, LookupShape            what it holds for a name
---   Shapes                           all of it, with names, prefixes, lengths and free slots
+--   NameBytes, FlagShape, Multiple    the bytes of a good name, the flags, a right length
+--   WellFormed, RecordShape           a record that is well formed, and what is read from it
+--   UsedPlace, UsedEntry, SlotShape   a used slot, and what is read from it
+--   NoDamage, Once                    an area without damage; that no name is in it twice
+--   SlotHeld, LookupShape             what it holds for a name
+--   Shapes                            all of it, with names, prefixes, lengths and free slots
 use Rattle.std.specs.Prelude.{◌≡◌, ◌≢◌, ◌⊎◌, ◌↔◌, true, false, List, ◌++◌, ℕ, ◌*◌, ◌/◌, ◌%◌, ◌≤◌, ◌<◌, length, get_or, take, drop}
 use Rattle.std.proofs.Math.Option.{Option, none, some}
 use Rattle.cipher.specs.Cmac.{cmac}

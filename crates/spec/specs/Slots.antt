@@ -1,10 +1,10 @@
 -- Lists of slots, whatever a slot is.
---   chunks, join_slots                     a flat area cut into slots, and slots joined
---   find_first, first_index                 the first slot that passes a test: itself, its index
---   member, dedup                         lists of names: one among them, equal ones once
---   is_name, names_by                       the names that slots have
---   in_order, sorted_by                     02, No. 7: slots in order of their names
---   drop_last, place_by, close_up            a slot put in its place in that order, or taken out of it
+--   chunks, join_slots              a flat area cut into slots, and slots joined
+--   find_first, first_index         the first slot that passes a test: itself, its index
+--   member, dedup                   lists of names: one among them, equal ones once
+--   is_name, names_by               the names that slots have
+--   in_order, sorted_by             02, No. 7: slots in order of their names
+--   drop_last, place_by, close_up   a slot put in its place in that order, or taken out of it
 use Rattle.std.specs.Prelude.{Bool, true, false, cond, ◌&&◌, List, [], ◌∷◌, ◌++◌, ℕ, zero, suc, take, drop}
 use Rattle.std.proofs.Math.Option.{Option, none, some}
 use Rattle.buffers.specs.Bytes.{every, any, bytes_eq}

@@ -1,9 +1,9 @@
 -- 01, "Numbers the calls answer with", and how a call comes to one.
 --   status_table, is_listed   the numbers of the table, and whether a number is one of them
---   Test, first_of           a number with the test that it is given for; the number of the first test that says so
---   Answer, answer_of        what a call answers; what it answers where its status is 0, and where it is not
---   buffer_answer            an answer of bytes at the front of a lent buffer
---   bytes_given              the bytes that an answer's count counts
+--   Test, first_of            a number with the test that it is given for; the number of the first test that says so
+--   Answer, answer_of         what a call answers; what it answers where its status is 0, and where it is not
+--   buffer_answer             an answer of bytes at the front of a lent buffer
+--   bytes_given               the bytes that an answer's count counts
 use Rattle.std.specs.Prelude.{Bool, true, false, cond, List, [], ◌∷◌, ◌++◌, ℕ, eqb, length, get_or, take, drop}
 use Rattle.buffers.specs.Bytes.{any, zeros}
 

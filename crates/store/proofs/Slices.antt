@@ -1,12 +1,13 @@
 -- Lengths of what the areas hold, and parts of arrays that end in zeros. Assumes nothing.
-use mathlib.Core.Path.{◌≡◌, ap, ◌∙◌}
+use mathlib.Core.Path.{◌≡◌, refl, ap, ◌∙◌}
 use mathlib.Core.Bool.{true}
 use mathlib.Core.List.{List, ◌++◌}
 use Prim.Native.Nat.{ℕ, ◌-◌, ◌≤◌}
 use native.Mathlib.Omega.{arith}
 use lib.Seq.{take_at, drop-append-le}
 use lib.ListN.{length, take, drop, length-drop}
-use Rattle.buffers.specs.Bytes.{is_some}
+use native.Mathlib.Nat.{zero-add}
+use Rattle.buffers.specs.Bytes.{is_some, put_at}
 use Rattle.spec.specs.Decisions.{record_of}
 use Rattle.spec.specs.Area.{rbp_format, lookup}
 use Rattle.buffers.proofs.Split.{split_o, clash}
@@ -30,3 +31,7 @@ tail-part r z n h k =
 -- the rest of p in an array that holds p and then zeros
 pub data_part : (p z : List ℕ) (o : ℕ) → o ≤ length p → take (length p - o) (drop o (p ++ z)) ≡ drop o p
 data_part p z o h = rw (drop-append-le o p z h) (take_at (drop o p) z (length p - o) (length-drop o p))
+
+-- what a paste at the front leaves
+pub paste-front : (dst src : List ℕ) → put_at dst 0 src ≡ src ++ drop (length src) dst
+paste-front dst src = rw zero-add refl

@@ -24,7 +24,7 @@ pub fn decode_handle(b: [u8; 88]) -> IncSetHandle
     ensures { result ≡ handle_of b }
 {
     let mut name = [0u8; 64];
-    bytes::copy(&b[0..64], &mut name);
+    name.copy_from_slice(&b[0..64]);
     IncSetHandle {
         name,
         name_len: numbers::le_at(&b, 64, 4),

@@ -51,7 +51,7 @@ fn new_handle(name: &[u8], flags: u32, iv: &[u8], final_data_size: usize) -> Inc
     ensures { result ≡ new_handle name.now flags iv.now final_data_size }
 {
     let mut filled = [0u8; 64];
-    bytes::copy(name, &mut filled);
+    parts::paste(&mut filled, 0, name);
     IncSetHandle {
         name: filled,
         name_len: name.len() as u32,
@@ -180,7 +180,7 @@ pub fn set_finalize(
     handle: IncSetHandle,
     staging: &[u8],
 ) -> u32
-    ensures { record { answer = record { status = result; numbers = []; output = [] }; after = record { kv = kv.exit.now; rbp = rbp.new } } ≡ store_set_finalize kv.entry.now rbp.old device_key.now handle staging.now }
+    ensures { record { answer = record { status = result; numbers = []; output = [] }; after = record { kv = kv.new; rbp = rbp.new } } ≡ store_set_finalize kv.old rbp.old device_key.now handle staging.now }
 {
     let name = handle.name;
     let iv = handle.iv;

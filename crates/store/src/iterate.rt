@@ -6,6 +6,7 @@ ghost use Rattle.store.specs.Parts.{iterator_early};
 
 use crate::answers::Iterated;
 use crate::{guard, status};
+use buffers::parts;
 use slots::{AreaKind, areas, names};
 
 // 1 to 3: what an iterator asks before it looks at slots.
@@ -50,7 +51,7 @@ pub fn iterator_next(
         return refused(status::ERR_NOT_FOUND);
     }
     let name = areas::name_at(AreaKind::Kv, kv, at);
-    bytes::copy(name, name_buf);
+    parts::paste(name_buf, 0, name);
     Iterated {
         status: status::OK,
         name_len: name.len(),

@@ -48,7 +48,7 @@ pub fn held_status(held: bool, stored: &[u8]) -> u32
 pub fn erase_record(kv: &mut [u8], rbp: &mut [u8], found: Found, entry: Found, flags: u32)
     requires undamaged { Undamaged kv.old rbp.old }
     requires held_value { (found.held ≡ true) × (CanRead kv_format kv.old found) × (CanRead rbp_format rbp.old entry) }
-    ensures { record { kv = kv.exit.now; rbp = rbp.new } ≡ record_erased kv.entry.now rbp.old found entry flags }
+    ensures { record { kv = kv.new; rbp = rbp.new } ≡ record_erased kv.old rbp.old found entry flags }
 {
     areas::erase_at(AreaKind::Kv, kv, found);
     if guard::both(flag::require_replay_protection(flags), entry.held) {
@@ -74,7 +74,7 @@ pub fn judge(kv: &[u8], rbp: &[u8], name: &[u8]) -> Judged
 }
 
 pub fn remove(kv: &mut [u8], rbp: &mut [u8], name: &[u8]) -> u32
-    ensures { record { answer = record { status = result; numbers = []; output = [] }; after = record { kv = kv.exit.now; rbp = rbp.new } } ≡ store_remove kv.entry.now rbp.old name.now }
+    ensures { record { answer = record { status = result; numbers = []; output = [] }; after = record { kv = kv.new; rbp = rbp.new } } ≡ store_remove kv.old rbp.old name.now }
 {
     let judged = judge(kv, rbp, name);
     if judged.status != status::OK {

@@ -7,7 +7,7 @@ use buffers::parts;
 use slots::{AreaKind, areas};
 
 pub fn reset(kv: &mut [u8], rbp: &mut [u8]) -> u32
-    ensures { record { answer = record { status = result; numbers = []; output = [] }; after = record { kv = kv.exit.now; rbp = rbp.new } } ≡ Calls.store_reset kv.entry.now rbp.old }
+    ensures { record { answer = record { status = result; numbers = []; output = [] }; after = record { kv = kv.new; rbp = rbp.new } } ≡ Calls.store_reset kv.old rbp.old }
 {
     if !areas::area_sized(AreaKind::Kv, kv) {
         return status::ERR_LENGTH;

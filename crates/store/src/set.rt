@@ -120,7 +120,7 @@ pub fn write_record(
     requires undamaged { Undamaged kv.old rbp.old }
     requires can_insert { (CanInsert kv_format kv.old found) × (require_replay_protection flags ≡ true → CanInsert rbp_format rbp.old entry) }
     requires name_value { (valid_name name.now ≡ true) × (Sealable flags iv «data».now) }
-    ensures { record { kv = kv.exit.now; rbp = rbp.new } ≡ record_written kv.entry.now rbp.old found entry device_key name.now flags iv «data».now }
+    ensures { record { kv = kv.new; rbp = rbp.new } ≡ record_written kv.old rbp.old found entry device_key name.now flags iv «data».now }
 {
     let record_buf = make_record(device_key, name, flags, iv, data);
     let len = data.len() + 36;
@@ -169,7 +169,7 @@ pub fn set(
     iv: &[u8],
     data: &[u8],
 ) -> u32
-    ensures { record { answer = record { status = result; numbers = []; output = [] }; after = record { kv = kv.exit.now; rbp = rbp.new } } ≡ store_set kv.entry.now rbp.old device_key.now name.now flags iv.now «data».now }
+    ensures { record { answer = record { status = result; numbers = []; output = [] }; after = record { kv = kv.new; rbp = rbp.new } } ≡ store_set kv.old rbp.old device_key.now name.now flags iv.now «data».now }
 {
     let judged = judge(kv, rbp, device_key, name, flags, iv, data);
     if judged.status != status::OK {

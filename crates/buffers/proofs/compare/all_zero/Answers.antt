@@ -1,7 +1,6 @@
 -- `buffers::compare::all_zero`. The invariant: what was seen is zero, and the rest is, just where the whole is.
 use mathlib.Core.Path.{◌≡◌, refl, sym, ◌∙◌}
 use mathlib.Core.List.{[]}
-use Prim.Native.Nat.{◌-◌}
 use native.Mathlib.Omega.{arith}
 use borrow.Author.Rules.{rules}
 use lib.Dec.{eqb}

@@ -1,7 +1,6 @@
 -- `buffers::compare::diff_accumulate`. The invariant: the differences of what is left, joined to those so far, are those of the whole.
 use mathlib.Core.Path.{refl, ◌∙◌}
 use mathlib.Core.List.{zip_with}
-use Prim.Native.Nat.{◌-◌}
 use native.Mathlib.Omega.{arith}
 use lib.ListN.{drop_of_length-le}
 use borrow.Author.Rules.{rules}

@@ -1,6 +1,5 @@
 -- `buffers::compare::precedes`. The invariant: what is left of both decides.
 use mathlib.Core.Path.{refl, sym, ◌∙◌}
-use Prim.Native.Nat.{◌-◌}
 use native.Mathlib.Omega.{arith}
 use Rattle.buffers.proofs.Order.{four-differ, four_same}
 use Rattle.buffers.proofs.compare.precedes.Goals as goal

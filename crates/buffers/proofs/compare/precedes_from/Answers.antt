@@ -1,6 +1,5 @@
 -- `buffers::compare::precedes_from`. The invariant: what is left of both decides.
 use mathlib.Core.Path.{refl, sym, ◌∙◌}
-use Prim.Native.Nat.{◌-◌}
 use native.Mathlib.Numerals.{add-one}
 use native.Mathlib.Omega.{arith}
 use Rattle.buffers.proofs.Order.{ends-left, bytes_left, byte_left}

@@ -1,6 +1,6 @@
 -- `buffers::numbers::read_le`. The invariant: `value` is the number of the bytes from place i on.
 use mathlib.Core.Path.{◌≡◌}
-use Prim.Native.Nat.{◌-◌, ◌≤◌}
+use Prim.Native.Nat.{◌≤◌}
 use lib.ListN.{length, drop}
 use Rattle.buffers.specs.Bytes.{le_value}
 use Rattle.buffers.proofs.numbers.read_le.Given as goal

@@ -1,5 +1,5 @@
 -- `cipher::aes::expand_into`. The invariant: `k` is round key r, `c` the constant for the next one, and the front of `keys` has the round keys up to r.
-use Rattle.std.proofs.Common.{◌≡◌, ◌+◌, ◌-◌, sym, refl, ap, ◌∙◌, add-one, arith, take_all, rules}
+use Rattle.std.proofs.Common.{◌≡◌, ◌+◌, sym, refl, ap, ◌∙◌, add-one, arith, take_all, rules}
 use Rattle.cipher.specs.Aes.{word_number, rcon, rcon_byte, round_key, next_round_key, state_numbers, expand_to, expand_key}
 use Rattle.cipher.specs.Columns.{columns_state}
 use Rattle.cipher.proofs.KeySchedule.{put_front, expand_step}

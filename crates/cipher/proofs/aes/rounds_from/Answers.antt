@@ -1,5 +1,5 @@
 -- `cipher::aes::rounds_from`. The invariant: `s` is the state after r rounds of whatever state the columns lent are after the first few.
-use Rattle.std.proofs.Common.{◌≡◌, ◌-◌, ap, ◌∙◌, add-one, arith, rules}
+use Rattle.std.proofs.Common.{◌≡◌, ap, ◌∙◌, add-one, arith, rules}
 use Rattle.cipher.specs.Aes.{State, after_rounds, mix_columns, shift_rows, sub_bytes, add_round_key, cipher}
 use Rattle.cipher.specs.Columns.{columns_state, words_state}
 use Rattle.cipher.proofs.aes.rounds_from.Goals as goal

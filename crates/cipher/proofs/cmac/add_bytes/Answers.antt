@@ -1,5 +1,5 @@
 -- `cipher::cmac::add_bytes`. The invariant: what is left of the data, added to the present sum, gives what all of it gives.
-use Rattle.std.proofs.Common.{◌≡◌, ◌-◌, [], drop, ◌∙◌, add-zero, arith, drop_of_length-le, w8, rules}
+use Rattle.std.proofs.Common.{◌≡◌, [], drop, ◌∙◌, add-zero, arith, drop_of_length-le, w8, rules}
 use borrow.Kind.Array.{e_int, good_length}
 use Rattle.cipher.specs.CmacState.{xor_at}
 use Rattle.cipher.proofs.Blocks.{xor-from-step}

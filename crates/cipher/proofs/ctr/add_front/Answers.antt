@@ -1,5 +1,5 @@
 -- `cipher::ctr::add_front`. The invariant: the bytes before i are done, and those from i on as lent.
-use Rattle.std.proofs.Common.{◌-◌, refl, ◌∙◌, arith, w8, rules}
+use Rattle.std.proofs.Common.{refl, ◌∙◌, arith, w8, rules}
 use borrow.Kind.Array.{e_int, good_length}
 use Rattle.cipher.proofs.Stream.{front-step, front-done}
 use Rattle.cipher.proofs.ctr.add_front.Goals as goal

@@ -1,6 +1,4 @@
 -- `slots::areas::area_intact`. The invariant: the slot before i is well shaped, and from there on the area is in order just where it is intact.
--- where slot i stands
--- what the slot in hand decides of those that are left
 use mathlib.Core.Path.{◌≡◌, sym, ap, ◌∙◌}
 use mathlib.Core.Bool.{◌&&◌}
 use mathlib.Core.List.{List}
@@ -16,6 +14,7 @@ use Rattle.slots.proofs.Order.{chained, intact-chain, chain-turn, turn-well, cha
 use Rattle.slots.proofs.areas.area_intact.Goals.{After-slot_follows, In-loop-i}
 use Rattle.slots.proofs.areas.area_intact.Goals as goal
 
+-- where slot i stands
 record Place (F : Format) (l : List ℕ) (i w : ℕ) : Type 0 where
   in_range : i < slot_count F l
   some : 0 < w
@@ -34,6 +33,7 @@ place c =
       ends = slot-end (format_of args.kind) args.area.now c.requires c.loop-i.i h size.result size.ensures;
     }
 
+-- what the slot in hand decides of those that are left
 turn : (c : goal.After-slot_follows) → (c.loop-i.i < slot_count (format_of c.args.kind) c.args.area.now) → let args = c.args in
     let F = format_of args.kind in
     let i = c.loop-i.i in

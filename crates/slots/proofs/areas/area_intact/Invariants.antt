@@ -1,6 +1,4 @@
 -- `slots::areas::area_intact`. The invariant: the slot before i is well shaped, and from there on the area is in order just where it is intact.
--- where slot i stands
--- what the slot in hand decides of those that are left
 use mathlib.Core.Path.{◌≡◌}
 use mathlib.Core.Bool.{true}
 use Prim.Native.Nat.{◌-◌, ◌≤◌}

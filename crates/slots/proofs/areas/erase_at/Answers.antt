@@ -1,5 +1,4 @@
 -- `slots::areas::erase_at`: a block of slots one slot back, with a free one behind.
--- the slot is in use, and the used ones are within the area
 use Prim.Native.Nat.{◌+◌, ◌*◌, ◌≤◌, ◌<◌}
 use native.Mathlib.Omega.{arith}
 use lib.ListN.{length}
@@ -11,6 +10,7 @@ use Rattle.slots.proofs.Edits.{held-used, erase-bytes}
 use Rattle.slots.proofs.areas.erase_at.Goals.{After-first_free}
 use Rattle.slots.proofs.areas.erase_at.Goals as goal
 
+-- the slot is in use, and the used ones are within the area
 reach : (c : goal.After-first_free) → let args = c.args in
     (args.found.at < c.first_free.result) × (c.first_free.result ≤ slot_count (format_of args.kind) args.area.now)
 reach c =

@@ -1,5 +1,4 @@
 -- `slots::areas::first_free`. The invariant: the first free slot is between the two bounds.
--- the slot in hand: as wide as a slot, and well shaped
 use mathlib.Core.Path.{◌≡◌}
 use mathlib.Core.Bool.{true}
 use Prim.Native.Nat.{◌+◌, ◌/◌}
@@ -16,6 +15,7 @@ use Rattle.slots.proofs.SlotLaws.{blank-is-free}
 use Rattle.slots.proofs.areas.first_free.Goals.{After-slot_at-s}
 use Rattle.slots.proofs.areas.first_free.Goals as goal
 
+-- the slot in hand: as wide as a slot, and well shaped
 in-hand : (c : goal.After-slot_at-s) → let F = format_of c.args.kind in
     let x = c.slot_at-s.result.now in
     (length x ≡ F.slot_size) × (slot_valid F x ≡ true)

@@ -1,5 +1,4 @@
 -- `slots::areas::first_free`. The invariant: the first free slot is between the two bounds.
--- the slot in hand: as wide as a slot, and well shaped
 use Prim.Native.Nat.{◌-◌, ◌≤◌}
 use Rattle.spec.specs.Slots.{first_index}
 use Rattle.spec.specs.Area.{slot_free, slot_count, slots}

@@ -1,5 +1,4 @@
 -- `slots::areas::has_space`: the last slot is free just where one is.
--- the last slot: as wide as a slot, and well shaped
 use mathlib.Core.Path.{◌≡◌, sym, ◌∙◌}
 use mathlib.Core.Bool.{true}
 use Prim.Native.Nat.{suc, ◌-◌, ◌≤◌, ◌<◌}
@@ -19,6 +18,7 @@ use Rattle.slots.proofs.SlotLaws.{blank-is-free}
 use Rattle.slots.proofs.areas.has_space.Goals.{After-slot_at-s}
 use Rattle.slots.proofs.areas.has_space.Goals as goal
 
+-- the last slot: as wide as a slot, and well shaped
 in-hand : (c : goal.After-slot_at-s) → let F = format_of c.args.kind in
     let x = c.slot_at-s.result.now in
     (length x ≡ F.slot_size) × (slot_valid F x ≡ true)

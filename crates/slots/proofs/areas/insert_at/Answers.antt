@@ -1,5 +1,4 @@
 -- `slots::areas::insert_at`: a block of slots one slot on, with the new one in front.
--- the block is within the area
 use Prim.Native.Nat.{◌+◌, ◌*◌, ◌≤◌}
 use native.Mathlib.Omega.{arith}
 use lib.ListN.{length}
@@ -9,6 +8,7 @@ use Rattle.slots.proofs.Edits.{insert-reach, insert-bytes}
 use Rattle.slots.proofs.areas.insert_at.Goals.{After-insert_end}
 use Rattle.slots.proofs.areas.insert_at.Goals as goal
 
+-- the block is within the area
 ends : (c : goal.After-insert_end) → let args = c.args in
     let w = c.slot_size-w.result in
     (args.found.at * w + w ≤ c.insert_end.result * w) × (c.insert_end.result * w ≤ length args.area.now)

@@ -1,5 +1,4 @@
 -- `slots::areas::slot_at`: a slot's bytes in the area.
--- the slot ends within the area
 use Prim.Native.Nat.{◌+◌, ◌*◌, ◌≤◌}
 use native.Mathlib.Omega.{arith}
 use lib.ListN.{length}
@@ -8,6 +7,7 @@ use Rattle.slots.proofs.AreaLaws.{slot-end, slot-bytes}
 use Rattle.slots.proofs.areas.slot_at.Goals.{After-slot_size-w}
 use Rattle.slots.proofs.areas.slot_at.Goals as goal
 
+-- the slot ends within the area
 within : (c : goal.After-slot_size-w) → let args = c.args in args.i * c.slot_size-w.result + c.slot_size-w.result ≤ length args.area.now
 within c =
     let args = c.args in

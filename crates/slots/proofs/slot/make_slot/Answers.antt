@@ -1,5 +1,4 @@
 -- `slots::slot::make_slot`: cleared, then header, name and payload.
--- the slot keeps its width: cleared, with its header, and with its name
 use mathlib.Core.Path.{◌≡◌, ap, ◌∙◌}
 use native.Mathlib.Omega.{arith}
 use lib.ListN.{length}
@@ -11,6 +10,7 @@ use Rattle.slots.proofs.SlotBytes.{written-slot}
 use Rattle.slots.proofs.slot.make_slot.Goals.{After-clear, After-put_header, After-paste}
 use Rattle.slots.proofs.slot.make_slot.Goals as goal
 
+-- the slot keeps its width: cleared, with its header, and with its name
 cleared : (c : goal.After-clear) → length c.clear.new.part ≡ (format_of c.args.kind).slot_size
 cleared c =
     ap length c.clear.ensures ∙ length-zeros (length c.args.slot.now) ∙ c.requires.0

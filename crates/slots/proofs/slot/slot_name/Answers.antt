@@ -1,5 +1,4 @@
 -- `slots::slot::slot_name`: a used slot's name is within it.
--- the name ends within the slot
 use mathlib.Core.Path.{◌∙◌}
 use Prim.Native.Nat.{◌+◌, ◌≤◌}
 use native.Mathlib.Omega.{arith}
@@ -11,6 +10,7 @@ use Rattle.buffers.proofs.Lists.{part}
 use Rattle.slots.proofs.slot.slot_name.Goals.{After-name_offset-at}
 use Rattle.slots.proofs.slot.slot_name.Goals as goal
 
+-- the name ends within the slot
 within : (c : goal.After-name_offset-at) → let s = c.args.slot.now in c.name_offset-at.result + get_or s 1 0 ≤ length s
 within c =
     let k = numbers c.args.kind in

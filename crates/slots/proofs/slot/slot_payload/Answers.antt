@@ -1,5 +1,4 @@
 -- `slots::slot::slot_payload`: a used slot's payload is within it.
--- the payload ends within the slot
 use mathlib.Core.Path.{◌∙◌}
 use Prim.Native.Nat.{◌+◌, ◌≤◌}
 use native.Mathlib.Omega.{arith}
@@ -11,6 +10,7 @@ use Rattle.buffers.proofs.Lists.{part}
 use Rattle.slots.proofs.slot.slot_payload.Goals.{After-payload_offset-at}
 use Rattle.slots.proofs.slot.slot_payload.Goals as goal
 
+-- the payload ends within the slot
 within : (c : goal.After-payload_offset-at)
     → c.payload_offset-at.result + c.payload_len-m.result ≤ length c.args.slot.now
 within c =

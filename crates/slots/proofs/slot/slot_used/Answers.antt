@@ -1,6 +1,4 @@
 -- `slots::slot::slot_used`: the tests of a used slot, in the order of the definition.
--- the name ends before the payload, and the payload within the slot
--- what is left to test, where the payload fits
 use mathlib.Core.Path.{◌≡◌, refl, sym, ◌∙◌}
 use mathlib.Core.Bool.{◌&&◌}
 use Prim.Native.Nat.{◌+◌, ◌-◌, ◌≤◌}
@@ -15,6 +13,7 @@ use Rattle.slots.proofs.SlotLaws.{used-tests}
 use Rattle.slots.proofs.slot.slot_used.Goals.{Else-slot-payload}
 use Rattle.slots.proofs.slot.slot_used.Goals as goal
 
+-- the name ends before the payload, and the payload within the slot
 in_order_lem : (c : goal.Else-slot-payload) → let payload-offset = c.payload_offset-payload.result in
     let s = c.args.slot.now in
     (c.name_offset-at.result + name_length s ≤ payload-offset)
@@ -26,6 +25,7 @@ in_order_lem c =
     let k = numbers c.args.kind in
     (omega (arith, payload-offset.ensures, name-offset.ensures, if2.false), omega (arith, payload-offset.ensures, c.if-slot-payload.false, c.requires))
 
+-- what is left to test, where the payload fits
 left-to-test : (c : goal.Else-slot-payload) → let args = c.args in
     let s = args.slot.now in
     let name-end = c.name_offset-at.result + name_length s in
