@@ -3,9 +3,6 @@ pub mod Header
 pub mod Digits
 pub mod Written
 pub mod Loaded
-pub mod ReaderWalk
-pub mod ReaderTake
-pub mod ReaderStep
 pub mod FileLaws
 pub mod Names
 pub mod CallLaws

@@ -1,5 +1,4 @@
-// 01: "The file reader keeps the lent file and a place in it, and takes one field at a time". The borrow checker covers no function over such a
-// struct, so each is thin and proved by hand; `fields` does the work.
+// 01: "The file reader keeps the lent file and a place in it, and takes one field at a time". Each function is thin; `fields` does the work.
 ghost use Rattle.std.specs.Prelude.{◌≡◌};
 ghost use Rattle.keys.specs.Reader.{mark_at, field_at, bytes_at, part_at, part_place};
 
@@ -55,7 +54,7 @@ pub fn take_field<'s, 'a>(r: &'s mut KeyFileReader<'a>) -> Taken
 }
 
 pub fn take_material<'s, 'a>(r: &'s mut KeyFileReader<'a>, n: usize) -> KeyMaterial<'a>
-    ensures { (result.bytes.now ≡ part_at r.old.file.now r.old.pos n) × (result.bytes.ptr ≡ part_place r.old.file r.old.pos n) × (result.status ≡ (bytes_at r.old.file.now r.old.pos n).status) × (r.new.file ≡ r.old.file) × (r.new.pos ≡ (bytes_at r.old.file.now r.old.pos n).pos) }
+    ensures { (result.bytes.now ≡ part_at r.old.file.now r.old.pos n) × (result.bytes.ref_ptr ≡ part_place r.old.file r.old.pos n) × (result.status ≡ (bytes_at r.old.file.now r.old.pos n).status) × (r.new.file ≡ r.old.file) × (r.new.pos ≡ (bytes_at r.old.file.now r.old.pos n).pos) }
 {
     let bytes = fields::part_at(r.file, r.pos, n);
     let f = fields::bytes_at(r.file, r.pos, n);

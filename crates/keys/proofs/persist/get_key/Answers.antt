@@ -1,0 +1,18 @@
+-- `keys::persist::get_key`: the digits that are the name are its part.
+use mathlib.Core.Path.{ap, ◌∙◌}
+use mathlib.Core.List.{List}
+use Prim.Native.Nat.{ℕ}
+use Rattle.spec.specs.Calls.{store_get}
+use Rattle.keys.proofs.Digits.{name-part, part-within}
+use Rattle.keys.proofs.persist.get_key.Goals as goal
+
+pub slice_bounds-get-end : goal.slice_bounds-get-end
+slice_bounds-get-end c =
+    let id = c.args.key_id in
+    part-within id _ _ c.key_digits-digits.ensures c.key_name_len-name_len.ensures
+
+pub returns : goal.returns
+returns c =
+    let a = c.args in
+    let name = name-part a.key_id _ _ c.key_digits-digits.ensures c.key_name_len-name_len.ensures in
+    c.get.ensures ∙ ap (λ (n : List ℕ). (store_get a.kv.now a.rbp.now a.device_key.now n 0 a.file.now).answer) name
