@@ -3,7 +3,7 @@ use native.Mathlib.Numerals.{add-one}
 use Rattle.spec.proofs.First.{every-index}
 use Rattle.mix.proofs.MixLaws.{sends-size}
 use Rattle.mix.proofs.Lists.{front-inside, flatten-snoc, put-more}
-use Prim.Native.Nat.{ℕ, ◌+◌, ◌*◌, ◌-◌, ◌≤◌, ◌<◌}
+use Prim.Native.Nat.{ℕ, ◌+◌, ◌*◌, ◌≤◌, ◌<◌}
 use mathlib.Core.Path.{◌≡◌, sym, ap, ◌∙◌}
 use mathlib.Core.List.{List, ◌++◌, map, flatten, append-nil, append_assoc}
 use native.Mathlib.Omega.{arith}

@@ -1,5 +1,4 @@
 -- `mix::codec::put_sends`. The invariant: the header, the sends passed, and what stood behind them.
--- what the arrays' types say of them, and what stands before the place of a send
 use Prim.Native.Nat.{◌+◌, ◌*◌, ◌-◌, ◌≤◌}
 use mathlib.Core.Path.{◌≡◌}
 use mathlib.Core.List.{◌++◌, map, flatten}

@@ -2,7 +2,7 @@
 use Rattle.spec.proofs.Chunks.{length-chunks}
 use Rattle.spec.proofs.First.{every-index}
 use Rattle.mix.proofs.Parts.{part-size, part-is, read_next}
-use Prim.Native.Nat.{ℕ, ◌-◌}
+use Prim.Native.Nat.{ℕ}
 use mathlib.Core.Path.{◌≡◌, ap, ◌∙◌}
 use mathlib.Core.List.{[]}
 use native.Mathlib.Omega.{arith}

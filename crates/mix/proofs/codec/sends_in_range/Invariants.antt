@@ -1,5 +1,4 @@
 -- `mix::codec::sends_in_range`. The invariant: what is left decides.
--- what the array's type says of it
 use Prim.Native.Nat.{◌-◌, ◌≤◌}
 use mathlib.Core.Path.{◌≡◌}
 use lib.ListN.{take, drop}

@@ -4,7 +4,6 @@ use Rattle.store.proofs.Tests.{is_false, is_true}
 use Rattle.spec.proofs.Chunks.{length-chunks}
 use Rattle.mix.proofs.Lists.{every_here, every-next, every-end}
 use Rattle.mix.proofs.Parts.{part-size, part-is}
-use Prim.Native.Nat.{◌-◌}
 use mathlib.Core.Path.{refl, ap, ◌∙◌}
 use mathlib.Core.List.{[]}
 use native.Mathlib.Omega.{arith}

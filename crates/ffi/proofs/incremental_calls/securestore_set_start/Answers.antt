@@ -1,0 +1,14 @@
+-- `ffi::incremental_calls::securestore_set_start`: the store's call, and its handle in bytes.
+use mathlib.Core.Path.{ap, ◌∙◌}
+use Rattle.spec.specs.Status.{Answer}
+use Rattle.spec.specs.Interleaving.{Outcome}
+use Rattle.spec.specs.Incremental.{handle_bytes}
+use Rattle.spec.specs.declared.incremental.IncSetHandle.{IncSetHandle}
+use Rattle.ffi.proofs.incremental_calls.securestore_set_start.Goals as goal
+
+pub returns : goal.returns
+returns c =
+    let set-start = c.set_start-answer in
+    let encode-handle = c.encode_handle in
+    let e = set-start.ensures in
+    record { value = ap (λ (o : Outcome IncSetHandle Answer). o.answer.status) e; handle_after = encode-handle.ensures ∙ ap (λ (o : Outcome IncSetHandle Answer). handle_bytes o.after) e }
