@@ -2,6 +2,7 @@
 use crate::areas::{front, span};
 use crate::print;
 use crate::values::read_bytes;
+use buffers::compare::bytes_equal;
 use std::num::wrapping_add_usize;
 use text::decimal::parse_decimal;
 use text::parts::field;
@@ -93,7 +94,7 @@ fn bytes_match(line: &[u8], k: usize, answer: Answer, i: usize, out: &[u8]) -> b
     }
     let mut expected = [0u8; 1024];
     let read = read_bytes(field(line, wrapping_add_usize(k, i)), &mut expected);
-    read.ok && check::same(front(&expected, read.count), run(answer, i, out))
+    read.ok && bytes_equal(front(&expected, read.count), run(answer, i, out))
 }
 
 // Whether the fields from k on, up to the last, are just the answer: its numbers, and behind them its bytes.

@@ -1,4 +1,5 @@
 // Parts of buffers. Where a part is not there, all of the buffer is handed back or nothing is done, so that no caller has a bound to show.
+use buffers::parts::paste;
 use std::num::wrapping_add_usize;
 
 // The first n bytes.
@@ -43,7 +44,7 @@ pub fn byte_at(s: &[u8], at: usize) -> u8 {
 pub fn put(s: &mut [u8], at: usize, data: &[u8]) -> bool {
     if at <= s.len() {
         if data.len() <= s.len() - at {
-            bytes::copy(data, &mut s[at..]);
+            paste(s, at, data);
             return true;
         }
     }

@@ -1,6 +1,7 @@
 // A line's arguments, read as its word takes them.
 use crate::values::read_bytes;
 use crate::{memory, words};
+use buffers::compare::bytes_equal;
 use std::num::wrapping_add_usize;
 use text::decimal::parse_decimal;
 use text::hex::Coded;
@@ -23,13 +24,13 @@ fn number_arg(s: &[u8], most: u64) -> Coded {
 
 // 0 for the card, 1 for the chip, 2 for the handle, 3 for the staging buffer; past the last where it is none of them.
 fn place_of(s: &[u8]) -> usize {
-    if check::same(s, b"card") {
+    if bytes_equal(s, b"card") {
         0
-    } else if check::same(s, b"chip") {
+    } else if bytes_equal(s, b"chip") {
         1
-    } else if check::same(s, b"handle") {
+    } else if bytes_equal(s, b"handle") {
         2
-    } else if check::same(s, b"staging") {
+    } else if bytes_equal(s, b"staging") {
         3
     } else {
         4

@@ -1,13 +1,14 @@
 // Standard output.
 use crate::areas::front;
-use libc::STDOUT_FILENO;
+
+const STDOUT: i32 = 1;
 
 pub fn text(s: &[u8]) {
-    io::write_all(STDOUT_FILENO, s);
+    io::write_all(STDOUT, s);
 }
 
 pub fn number(n: u64) {
-    io::print_decimal(STDOUT_FILENO, n);
+    io::print_decimal(STDOUT, n);
 }
 
 // Bytes as the files write them.

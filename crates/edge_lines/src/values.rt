@@ -1,5 +1,6 @@
 // Bytes as a line writes them (docs/EDGES.md).
 use crate::areas::{byte_at, front, part, put};
+use buffers::compare::bytes_equal;
 use std::num::wrapping_add_usize;
 use text::hex::Coded;
 
@@ -133,7 +134,7 @@ fn pieces(s: &[u8], out: &mut [u8]) -> Coded {
 }
 
 pub fn read_bytes(s: &[u8], out: &mut [u8]) -> Coded {
-    if check::same(s, b"-") {
+    if bytes_equal(s, b"-") {
         Coded { ok: true, count: 0 }
     } else {
         pieces(s, out)

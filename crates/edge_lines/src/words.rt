@@ -1,5 +1,6 @@
 // The words that a line begins with, and what each takes.
 use crate::areas::byte_at;
+use buffers::compare::bytes_equal;
 use text::parts::part;
 
 // A word, `=` where it answers, and the kind of each argument. Bytes are `b`, or `k`, `i`, `a`, `h` and `s` for the device key, the IV, the attributes, the
@@ -86,7 +87,7 @@ pub fn index_of(name: &[u8]) -> usize {
     let words = WORDS;
     let mut i = 0;
     while i < COUNT {
-        if check::same(part(part(&words, b';', i), b' ', 0), name) {
+        if bytes_equal(part(part(&words, b';', i), b' ', 0), name) {
             return i;
         }
         i += 1;

@@ -1,4 +1,5 @@
 // The calls, on the card, chip, key, IV, handle and staging buffer that last, with a line's arguments. What a call may write is lent as a copy, and put back.
+use buffers::compare::bytes_equal;
 use buffers::numbers::le_at;
 use edge_lines::answer::Answer;
 use edge_lines::areas::{front, front_mut, put, span};
@@ -240,5 +241,5 @@ pub fn checked_call(word: Word, args: Args, env: Env, mem: &mut [u8]) -> Answer 
     let mut before = [0u8; MEDIA];
     put(&mut before, 0, front(mem, MEDIA));
     let answer = call(word, args, env, mem);
-    answer.and_changed(!check::same(&before, front(mem, MEDIA)))
+    answer.and_changed(!bytes_equal(&before, front(mem, MEDIA)))
 }

@@ -2,6 +2,7 @@
 ghost use Rattle.io.specs.Counts.{IsPrefixLen};
 
 use crate::{calls, sweep};
+use buffers::compare::bytes_equal;
 use edge_lines::answer::Answer;
 use edge_lines::areas::{front, part};
 use edge_lines::args::Args;
@@ -10,8 +11,14 @@ use edge_lines::state::Env;
 use edge_lines::tally::Tally;
 use edge_lines::words::Word;
 use edge_lines::{answer, args, memory, print, state, words};
+use std::fs::File;
+use std::io::{Error, ErrorKind, Result};
 use std::num::{wrapping_add_u64, wrapping_add_usize, wrapping_sub_usize};
+use std::os::fd::AsRawFd;
+use std::str;
 use text::parts::{field, field_count};
+
+const STDERR: i32 = 2;
 
 // Where a run of lines stands: what lasts, the group's tally and the tally of all before it, and the line that names the group.
 #[derive(Clone, Copy)]
@@ -68,7 +75,7 @@ fn print_line(file: &[u8], k: usize, line: &[u8]) {
 
 // Whether a line is as expected, whose arguments end at a field; where it is not, it is told.
 fn judge(file: &[u8], k: usize, line: &[u8], end: usize, answer: Answer, out: &[u8]) -> Tally {
-    let parted = check::same(field(line, end), b"=");
+    let parted = bytes_equal(field(line, end), b"=");
     let from = wrapping_add_usize(end, 1);
     let good = parted && answer::matches(line, from, fields_of(line), answer, out);
     if !good {
@@ -182,24 +189,37 @@ fn run_text(file: &[u8], text: &[u8]) -> Tally {
     run.before.plus(run.group)
 }
 
+fn open(rt: &HostRuntime, path: &[u8]) -> Result<File> {
+    match str::from_utf8(path) {
+        Ok(name) => File::open(rt, name),
+        Err(_) => Err(Error::from(ErrorKind::InvalidFilename)),
+    }
+}
+
+// Says on standard error why a file cannot be opened.
+fn fail(rt: &HostRuntime, path: &[u8], why: Error) {
+    io::write_all(STDERR, path);
+    io::write_all(STDERR, b": ");
+    let _ = rt.eprintln(why);
+}
+
 // Puts a file's bytes at the start of buf, and answers how many, 0 where it cannot be opened.
-fn load(path: &[u8], buf: &mut [u8]) -> usize
+fn load(rt: &HostRuntime, path: &[u8], buf: &mut [u8]) -> usize
     ensures { IsPrefixLen result buf.new }
 {
-    let fd = os::open_read(path);
-    if fd < 0 {
-        os::fail(path);
-        return 0;
+    match open(rt, path) {
+        Ok(file) => io::read_full(file.as_raw_fd(), buf),
+        Err(why) => {
+            fail(rt, path, why);
+            0
+        }
     }
-    let n = io::read_full(fd, buf);
-    libc::close(fd);
-    n
 }
 
 // A file that is missing, too long, or has nothing to try counts as one line that differs.
-pub fn run_file(path: &[u8]) -> Tally {
+pub fn run_file(rt: &HostRuntime, path: &[u8]) -> Tally {
     let mut text = [0u8; 131072];
-    let n = load(path, &mut text);
+    let n = load(rt, path, &mut text);
     let tally = run_text(path, front(&text, n));
     if 0 < tally.tried && n < 131072 {
         return tally;

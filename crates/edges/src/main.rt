@@ -9,11 +9,25 @@ mod sweep;
 use edge_lines::areas::front;
 use edge_lines::print;
 use edge_lines::tally::Tally;
+use std::env::FillError;
+use std::rt::Env;
 
-fn run_argument(i: usize) -> Tally {
+// How many arguments the program was started with, its own name among them.
+fn argument_count(rt: &HostRuntime) -> usize {
     let mut name = [0u8; 256];
-    let len = os::arg(i, &mut name);
-    file::run_file(front(&name, len))
+    for i in 0..usize::MAX {
+        match rt.arg(i, &mut name) {
+            Err(FillError::NotPresent) => return i,
+            _ => {}
+        }
+    }
+    usize::MAX
+}
+
+fn run_argument(rt: &HostRuntime, i: usize) -> Tally {
+    let mut name = [0u8; 256];
+    let len = rt.arg(i, &mut name).unwrap_or(0);
+    file::run_file(rt, front(&name, len))
 }
 
 fn print_verdict(total: Tally) {
@@ -32,12 +46,12 @@ fn print_verdict(total: Tally) {
     }
 }
 
-fn main() {
-    let files = os::arg_count();
+fn main(rt: HostRuntime) {
+    let files = argument_count(&rt);
     let mut total = Tally::zero();
     let mut i = 1;
     while i < files {
-        total = total.plus(run_argument(i));
+        total = total.plus(run_argument(&rt, i));
         i += 1;
     }
     print_verdict(total);

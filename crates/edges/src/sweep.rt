@@ -1,5 +1,6 @@
 // Words that look at the bytes of card and chip, or try many calls.
 use crate::calls;
+use buffers::compare::bytes_equal;
 use edge_lines::answer::Answer;
 use edge_lines::areas::{byte_at, flip_byte, put, span};
 use edge_lines::args::Args;
@@ -30,7 +31,7 @@ pub fn at(line: &[u8], args: Args, env: Env, mem: &mut [u8]) -> Answer {
 
 // 0 where n bytes from two indices on are the same, and as many are asked.
 fn differ(mem: &[u8], a: usize, b: usize, n: usize, m: usize) -> u64 {
-    if n == m && check::same(span(mem, a, n), span(mem, b, n)) {
+    if n == m && bytes_equal(span(mem, a, n), span(mem, b, n)) {
         0
     } else {
         1

@@ -11,16 +11,16 @@ use Rattle.script_replay.specs.Stream.{ends_line, taken, held, held_size}
 use Rattle.replay.specs.declared.stream.Stream.{Stream}
 use Rattle.replay.specs.declared.line.Line.{Line}
 
-abbrev pub Bounded : Stream → Type 0
+abbrev pub Bounded : {R W : Type 0} → Stream R W → Type 0
 Bounded s = (s.from ≤ s.to) × (s.to ≤ 65536) × (s.used ≤ 65536) × (s.status ≤ 2)
 
-abbrev pub BoundedLine : Line → Type 0
+abbrev pub BoundedLine : {R W : Type 0} → Line R W → Type 0
 BoundedLine l = Bounded l.stream × (l.len ≤ held_size)
 
-abbrev pub unused : Stream → List ℕ → List ℕ
+abbrev pub unused : {R W : Type 0} → Stream R W → List ℕ → List ℕ
 unused s chunk = take (s.to - s.from) (drop s.from chunk)
 
-pub record Taken (l r : Line) (chunk line line' : List ℕ) : Type 0 where
+pub record Taken {R W : Type 0} (l r : Line R W) (chunk line line' : List ℕ) : Type 0 where
   pub input : r.stream.input ≡ l.stream.input
   pub output : r.stream.output ≡ l.stream.output
   pub from : r.stream.from ≡ l.stream.from + taken (unused l.stream chunk)
@@ -33,20 +33,20 @@ pub record Taken (l r : Line) (chunk line line' : List ℕ) : Type 0 where
   pub bytes : line' ≡ at_front (held held_size (take l.len line) (unused l.stream chunk)) line
 
 -- of a line whose read is used up
-pub record Waits (l r : Line) (line line' : List ℕ) : Type 0 where
+pub record Waits {R W : Type 0} (l r : Line R W) (line line' : List ℕ) : Type 0 where
   pub len : r.len ≡ l.len
   pub whole : r.whole ≡ false
   pub bytes : line' ≡ line
 
-abbrev pub Kept : Stream → Stream → Type 0
+abbrev pub Kept : {R W : Type 0} → Stream R W → Stream R W → Type 0
 Kept s r =
     (r.input ≡ s.input) × (r.output ≡ s.output) × (r.from ≡ s.from) × (r.to ≡ s.to) × (r.ended ≡ s.ended) × (r.status ≡ s.status)
 
 -- kept, or ended, since the answers can't be written
-abbrev pub KeptOrEnded : Stream → Stream → Type 0
+abbrev pub KeptOrEnded : {R W : Type 0} → Stream R W → Stream R W → Type 0
 KeptOrEnded s r = Kept s r ⊎ ((r.ended ≡ true) × (r.status ≡ 1))
 
-pub record Read (s r : Stream) : Type 0 where
+pub record Read {R W : Type 0} (s r : Stream R W) : Type 0 where
   pub input : r.input ≡ s.input
   pub output : r.output ≡ s.output
   pub used : r.used ≡ s.used
@@ -54,7 +54,7 @@ pub record Read (s r : Stream) : Type 0 where
   pub some : 0 < r.to → (r.ended ≡ s.ended) × (r.status ≡ s.status)
   pub none : r.to ≡ 0 → r.ended ≡ true
 
-pub record Appended (s r : Stream) (answers answers' answer : List ℕ) : Type 0 where
+pub record Appended {R W : Type 0} (s r : Stream R W) (answers answers' answer : List ℕ) : Type 0 where
   pub at : ℕ
   pub place : (at ≡ s.used) ⊎ ((64512 < s.used) × (at ≡ 0))
   pub kept : KeptOrEnded s r

@@ -1,6 +1,6 @@
-// The program `replay`: a script is read from one descriptor, and each answer is written to another.
+// The program `replay`: a script is read from standard input, and each answer is written to standard output.
 //
-// No contract can say what a call of the C library reads or writes. What is proved here is that every function is safe and ends, and what the steps between
+// No contract can say what the system reads or writes. What is proved here is that every function is safe and ends, and what the steps between
 // such calls do with the buffers (`specs/Turns`). What the bytes mean is proved in `script_replay`: `gather` cuts what was read into lines, `read_header`
 // reads the first, `step` carries out each other and makes its answer.
 #![tactic(auto)]
@@ -12,11 +12,12 @@ mod stream;
 ghost use Rattle.std.specs.Prelude.{◌≤◌};
 
 use script_replay::gather;
+use std::io;
 use stream::BUFFER_SIZE;
 
-// 0 where the script was read to its end, or its first line is bad; 1 where the answers can't be written; 2 where the script can't be read.
-#[unsafe(no_mangle)]
-pub extern "C" fn securestore_replay(input: i32, output: i32) -> u32
+// From any reader to any writer that can be copied, as the handle of a stream and the `&` of an open file can: a copy reads or writes on behind the
+// other. 0 where the script was read to its end, or its first line is bad; 1 where the answers can't be written; 2 where the script can't be read.
+pub fn play_script<R: io::Read + Copy, W: io::Write + Copy>(input: R, output: W) -> u32
     ensures { result ≤ 2 }
 {
     let mut chunk = [0u8; BUFFER_SIZE];
@@ -28,4 +29,13 @@ pub extern "C" fn securestore_replay(input: i32, output: i32) -> u32
         &mut answers,
         &mut line,
     )
+}
+
+// From standard input to standard output, with the answer of `play_script`. The handles have no bytes: in C this is
+// `uint32_t securestore_replay(void)`.
+#[unsafe(no_mangle)]
+pub extern "C" fn securestore_replay(input: io::Stdin, output: io::Stdout) -> u32
+    ensures { result ≤ 2 }
+{
+    play_script(input, output)
 }

@@ -6,17 +6,22 @@ use crate::stream;
 use crate::stream::{BUFFER_SIZE, Stream};
 use script_replay::gather;
 use script_replay::gather::HELD_SIZE;
+use std::io;
 
 // The first `len` bytes of a line are held, and whether its newline has come.
 #[derive(Clone, Copy)]
-pub struct Line {
-    pub stream: Stream,
+pub struct Line<R, W> {
+    pub stream: Stream<R, W>,
     pub len: usize,
     pub whole: bool,
 }
 
 // More of it from what was read.
-fn take_part(l: Line, chunk: &[u8], line: &mut [u8; HELD_SIZE]) -> Line
+fn take_part<R: Copy, W: Copy>(
+    l: Line<R, W>,
+    chunk: &[u8],
+    line: &mut [u8; HELD_SIZE],
+) -> Line<R, W>
     requires { BoundedLine l × (length chunk.now ≡ 65536) }
     ensures bounded_line { BoundedLine result }
     ensures taken { Taken l result chunk.now line.old line.new }
@@ -41,12 +46,12 @@ fn take_part(l: Line, chunk: &[u8], line: &mut [u8; HELD_SIZE]) -> Line
 }
 
 // From what was read, or another read where that is used up.
-fn gather_some(
-    l: Line,
+fn gather_some<R: io::Read + Copy, W: io::Write + Copy>(
+    l: Line<R, W>,
     chunk: &mut [u8; BUFFER_SIZE],
     answers: &[u8; BUFFER_SIZE],
     line: &mut [u8; HELD_SIZE],
-) -> Line
+) -> Line<R, W>
     requires { BoundedLine l }
     ensures bounded_line { BoundedLine result }
     ensures taken { l.stream.from < l.stream.to → Taken l result chunk.old line.old line.new }
@@ -65,12 +70,12 @@ fn gather_some(
 
 // Up to a newline or the end of the input. A proved loop has to end, and nothing says that a line does: so it counts its turns down, from a number that
 // no run uses up.
-pub(crate) fn next_line(
-    s: Stream,
+pub(crate) fn next_line<R: io::Read + Copy, W: io::Write + Copy>(
+    s: Stream<R, W>,
     chunk: &mut [u8; BUFFER_SIZE],
     answers: &[u8; BUFFER_SIZE],
     line: &mut [u8; HELD_SIZE],
-) -> Line
+) -> Line<R, W>
     requires { Bounded s }
     ensures { BoundedLine result }
 {
@@ -87,7 +92,7 @@ pub(crate) fn next_line(
     l
 }
 
-impl Line {
+impl<R: Copy, W: Copy> Line<R, W> {
     // Whether there is one: the last may lack its newline. What came before a read that failed is none.
     pub(crate) fn is_there(self) -> bool
         ensures { result ≡ (self.whole || (ltb 0 self.len && eqb self.stream.status 0)) }

@@ -10,16 +10,17 @@ use crate::{line, stream};
 use script_replay::answer::ANSWER_SIZE;
 use script_replay::gather::HELD_SIZE;
 use script_replay::{answer, areas, header, step};
+use std::io;
 
 // The line that is held is carried out, and its answer put behind the others.
-fn play_line(
-    l: Line,
+fn play_line<R: Copy, W: io::Write + Copy>(
+    l: Line<R, W>,
     kv: &mut [u8],
     rbp: &mut [u8],
     device_key: &[u8],
     line: &[u8; HELD_SIZE],
     answers: &mut [u8; BUFFER_SIZE],
-) -> Stream
+) -> Stream<R, W>
     requires { BoundedLine l }
     ensures bounded { Bounded result }
     ensures appended { Appended l.stream result answers.old answers.new (Replay-step kv.old rbp.old device_key.now (take l.len line.now)).answer }
@@ -33,15 +34,15 @@ fn play_line(
 }
 
 // The lines after the first.
-fn play_lines(
-    s: Stream,
+fn play_lines<R: io::Read + Copy, W: io::Write + Copy>(
+    s: Stream<R, W>,
     kv: &mut [u8],
     rbp: &mut [u8],
     device_key: &[u8],
     chunk: &mut [u8; BUFFER_SIZE],
     answers: &mut [u8; BUFFER_SIZE],
     line: &mut [u8; HELD_SIZE],
-) -> Stream
+) -> Stream<R, W>
     requires { Bounded s }
     ensures { Bounded result }
 {
@@ -56,14 +57,14 @@ fn play_lines(
 }
 
 // Card and chip start empty.
-fn play_from_empty(
-    s: Stream,
+fn play_from_empty<R: io::Read + Copy, W: io::Write + Copy>(
+    s: Stream<R, W>,
     device_key: [u8; 16],
     slots: usize,
     chunk: &mut [u8; BUFFER_SIZE],
     answers: &mut [u8; BUFFER_SIZE],
     line: &mut [u8; HELD_SIZE],
-) -> Stream
+) -> Stream<R, W>
     requires { Bounded s × (slots ≤ 64) }
     ensures { Bounded result }
 {
@@ -84,7 +85,10 @@ fn play_from_empty(
 }
 
 // 02: "a bad first line, or empty input, prints that and stops".
-fn play_unreadable(s: Stream, answers: &mut [u8; BUFFER_SIZE]) -> Stream
+fn play_unreadable<R: Copy, W: io::Write + Copy>(
+    s: Stream<R, W>,
+    answers: &mut [u8; BUFFER_SIZE],
+) -> Stream<R, W>
     requires { Bounded s }
     ensures bounded { Bounded result }
     ensures appended { Appended s result answers.old answers.new (answer_line err_syntax []) }
@@ -95,7 +99,7 @@ fn play_unreadable(s: Stream, answers: &mut [u8; BUFFER_SIZE]) -> Stream
 }
 
 // What is left is written.
-fn finish(s: Stream, answers: &[u8; BUFFER_SIZE]) -> u32
+fn finish<R: Copy, W: io::Write + Copy>(s: Stream<R, W>, answers: &[u8; BUFFER_SIZE]) -> u32
     requires { Bounded s }
     ensures { result ≤ 2 }
 {
@@ -105,8 +109,8 @@ fn finish(s: Stream, answers: &[u8; BUFFER_SIZE]) -> u32
     stream::flush(s, answers).status
 }
 
-pub(crate) fn play(
-    s: Stream,
+pub(crate) fn play<R: io::Read + Copy, W: io::Write + Copy>(
+    s: Stream<R, W>,
     chunk: &mut [u8; BUFFER_SIZE],
     answers: &mut [u8; BUFFER_SIZE],
     line: &mut [u8; HELD_SIZE],

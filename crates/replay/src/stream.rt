@@ -5,6 +5,7 @@ ghost use Rattle.replay.specs.Turns.{Bounded, KeptOrEnded, Read, Appended};
 
 use buffers::parts;
 use script_replay::answer::ANSWER_SIZE;
+use std::io;
 
 pub const BUFFER_SIZE: usize = 65536;
 
@@ -16,9 +17,9 @@ pub const ERR_INPUT: u32 = 2;
 
 // Of the bytes that were read last, those from `from` to `to` are not used yet; of the answers, the first `used` are to be written.
 #[derive(Clone, Copy)]
-pub struct Stream {
-    pub input: i32,
-    pub output: i32,
+pub struct Stream<R, W> {
+    pub input: R,
+    pub output: W,
     pub from: usize,
     pub to: usize,
     pub used: usize,
@@ -26,7 +27,7 @@ pub struct Stream {
     pub status: u32,
 }
 
-pub(crate) fn begin(input: i32, output: i32) -> Stream
+pub(crate) fn begin<R, W>(input: R, output: W) -> Stream<R, W>
     ensures { Bounded result }
 {
     Stream {
@@ -41,7 +42,7 @@ pub(crate) fn begin(input: i32, output: i32) -> Stream
 }
 
 // No more is read.
-fn end(s: Stream, used: usize, status: u32) -> Stream
+fn end<R: Copy, W: Copy>(s: Stream<R, W>, used: usize, status: u32) -> Stream<R, W>
     requires { (used ≤ 65536) × (status ≤ 2) }
     ensures bounded { Bounded result × (result.used ≡ used) × (result.ended ≡ true) × (result.status ≡ status) }
     ensures input_value { (result.input ≡ s.input) × (result.output ≡ s.output) × (result.from ≡ 0) × (result.to ≡ 0) }
@@ -58,13 +59,17 @@ fn end(s: Stream, used: usize, status: u32) -> Stream
 }
 
 // What is to be written is written.
-pub(crate) fn flush(s: Stream, answers: &[u8; BUFFER_SIZE]) -> Stream
+pub(crate) fn flush<R: Copy, W: io::Write + Copy>(
+    s: Stream<R, W>,
+    answers: &[u8; BUFFER_SIZE],
+) -> Stream<R, W>
     requires { Bounded s }
     ensures { Bounded result × (result.used ≡ 0) × KeptOrEnded s result }
 {
     let used = s.used;
     let all: &[u8] = answers;
-    if !io::write_all(s.output, &all[0..used]) {
+    let mut output = s.output;
+    if output.write_all(&all[0..used]).is_err() {
         return end(s, 0, ERR_OUTPUT);
     }
     Stream {
@@ -78,16 +83,16 @@ pub(crate) fn flush(s: Stream, answers: &[u8; BUFFER_SIZE]) -> Stream
     }
 }
 
-fn read(s: Stream, chunk: &mut [u8; BUFFER_SIZE]) -> Stream
+fn read<R: io::Read + Copy, W: Copy>(s: Stream<R, W>, chunk: &mut [u8; BUFFER_SIZE]) -> Stream<R, W>
     requires { Bounded s }
     ensures bounded { Bounded result }
     ensures read { Read s result }
 {
-    let got = libc::read(s.input, chunk);
-    if got < 0 {
-        return end(s, s.used, ERR_INPUT);
-    }
-    let to = io::count(got, chunk);
+    let mut input = s.input;
+    let to = match input.read(chunk) {
+        Ok(to) => to,
+        Err(_) => return end(s, s.used, ERR_INPUT),
+    };
     if to < 1 {
         return end(s, s.used, s.status);
     }
@@ -103,11 +108,11 @@ fn read(s: Stream, chunk: &mut [u8; BUFFER_SIZE]) -> Stream
 }
 
 // Another read, once the answers so far are written.
-pub(crate) fn refill(
-    s: Stream,
+pub(crate) fn refill<R: io::Read + Copy, W: io::Write + Copy>(
+    s: Stream<R, W>,
     chunk: &mut [u8; BUFFER_SIZE],
     answers: &[u8; BUFFER_SIZE],
-) -> Stream
+) -> Stream<R, W>
     requires { Bounded s }
     ensures { Bounded result }
 {
@@ -119,7 +124,10 @@ pub(crate) fn refill(
 }
 
 // Room for one more answer.
-fn make_room(s: Stream, answers: &[u8; BUFFER_SIZE]) -> Stream
+fn make_room<R: Copy, W: io::Write + Copy>(
+    s: Stream<R, W>,
+    answers: &[u8; BUFFER_SIZE],
+) -> Stream<R, W>
     requires { Bounded s }
     ensures { Bounded result × (result.used ≤ 64512) × ((result.used ≡ s.used) ⊎ ((64512 < s.used) × (result.used ≡ 0))) × KeptOrEnded s result }
 {
@@ -130,7 +138,11 @@ fn make_room(s: Stream, answers: &[u8; BUFFER_SIZE]) -> Stream
 }
 
 // An answer, behind those that are to be written.
-pub(crate) fn put(s: Stream, answers: &mut [u8; BUFFER_SIZE], answer: &[u8]) -> Stream
+pub(crate) fn put<R: Copy, W: io::Write + Copy>(
+    s: Stream<R, W>,
+    answers: &mut [u8; BUFFER_SIZE],
+    answer: &[u8],
+) -> Stream<R, W>
     requires { Bounded s × (length answer.now ≤ 1024) }
     ensures bounded { Bounded result }
     ensures appended { Appended s result answers.old answers.new answer.now }

@@ -1,6 +1,7 @@
 // What the fields of a line hold: bytes in hex, "-" where there are none, and decimal numbers.
 ghost use Rattle.std.specs.Prelude.{◌<◌, ◌≤◌};
 
+use buffers::compare::bytes_equal;
 use text::decimal::parse_decimal;
 use text::hex::decode_hex;
 use text::parts::{field, line};
@@ -20,7 +21,7 @@ pub fn read_bytes(f: &[u8]) -> Bytes
     ensures { result.size ≤ 160 }
 {
     let mut all = [0u8; LONGEST];
-    if check::same(f, b"-") {
+    if bytes_equal(f, b"-") {
         return Bytes {
             ok: true,
             size: 0,
@@ -128,5 +129,5 @@ pub fn states(f: &[u8], at: usize, found: [u8; 16]) -> bool {
     let there = read_bytes(f);
     let all = there.all;
     let expected = part(part(&all, 0, there.size), at, 16);
-    0 < expected.len() && check::same(expected, part(&found, 0, expected.len()))
+    0 < expected.len() && bytes_equal(expected, part(&found, 0, expected.len()))
 }

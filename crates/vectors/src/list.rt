@@ -1,7 +1,7 @@
 // The list of trials. An entry has a file, what is tried on its lines, the first line's number or "-", how many fields a line has, and
 // which of them hold key, input and output.
 use crate::fields::{is_bits, is_decimal, is_number, named, number, read_bytes};
-use check::same;
+use buffers::compare::bytes_equal as same;
 use text::parts::{field, field_count};
 
 pub const KEY: usize = 4;

@@ -11,14 +11,22 @@ mod trials;
 ghost use Rattle.std.specs.Prelude.{◌<◌, ◌≤◌};
 ghost use Rattle.io.specs.Counts.{IsPrefixLen};
 
+use buffers::compare::bytes_equal;
 use fields::{named, part, read_bytes};
 use io::print_decimal;
-use libc::STDOUT_FILENO;
+use std::fs::File;
+use std::io::{Error, ErrorKind, Result};
+use std::os::fd::AsRawFd;
+use std::str;
 use tally::Tally;
 use text::parts::{field, line, line_count};
 
+const STDOUT: i32 = 1;
+
+const STDERR: i32 = 2;
+
 fn print(words: &[u8]) {
-    io::write_all(STDOUT_FILENO, words);
+    io::write_all(STDOUT, words);
 }
 
 fn print_entry(entry: &[u8]) {
@@ -70,7 +78,7 @@ fn run_line(trial: u8, entry: &[u8], text: &[u8], index: usize) -> Tally {
     if tally.passed != tally.tried {
         print_entry(entry);
         print(b"line ");
-        print_decimal(STDOUT_FILENO, std::num::wrapping_add_u64(number as u64, 1));
+        print_decimal(STDOUT, std::num::wrapping_add_u64(number as u64, 1));
         print(b" differs\n");
     }
     tally
@@ -82,7 +90,7 @@ fn rows(text: &[u8]) -> usize {
     if lines < 1 {
         return 0;
     }
-    if check::same(part(text, 0, 2), b"# ") {
+    if bytes_equal(part(text, 0, 2), b"# ") {
         lines - 1
     } else {
         0
@@ -101,17 +109,32 @@ fn run_lines(entry: &[u8], text: &[u8]) -> Tally {
     tally
 }
 
+fn open(rt: &HostRuntime, path: &[u8]) -> Result<File> {
+    match str::from_utf8(path) {
+        Ok(name) => File::open(rt, name),
+        Err(_) => Err(Error::from(ErrorKind::InvalidFilename)),
+    }
+}
+
+// Says on standard error why a file cannot be opened.
+fn fail(rt: &HostRuntime, path: &[u8], why: Error) {
+    io::write_all(STDERR, path);
+    io::write_all(STDERR, b": ");
+    let _ = rt.eprintln(why);
+}
+
 // Puts a file's bytes at the start of buf, and answers how many: 0 where it cannot be opened or does not fit.
-fn load(path: &[u8], buf: &mut [u8]) -> usize
+fn load(rt: &HostRuntime, path: &[u8], buf: &mut [u8]) -> usize
     ensures { IsPrefixLen result buf.new }
 {
-    let fd = os::open_read(path);
-    if fd < 0 {
-        os::fail(path);
-        return 0;
-    }
-    let n = io::read_full(fd, buf);
-    libc::close(fd);
+    let file = match open(rt, path) {
+        Ok(file) => file,
+        Err(why) => {
+            fail(rt, path, why);
+            return 0;
+        }
+    };
+    let n = io::read_full(file.as_raw_fd(), buf);
     if n == buf.len() {
         return 0;
     }
@@ -119,32 +142,32 @@ fn load(path: &[u8], buf: &mut [u8]) -> usize
 }
 
 // An entry that cannot be read is one trial that differs, as a file is.
-fn run_file(entry: &[u8]) -> Tally {
+fn run_file(rt: &HostRuntime, entry: &[u8]) -> Tally {
     if !list::is_entry(entry) {
         return Tally::failed();
     }
     let mut buf = io::large_buffer();
-    let n = load(field(entry, 0), &mut buf);
+    let n = load(rt, field(entry, 0), &mut buf);
     run_lines(entry, &buf[..n])
 }
 
-fn run_entry(entry: &[u8]) -> Tally {
-    let tally = run_file(entry);
+fn run_entry(rt: &HostRuntime, entry: &[u8]) -> Tally {
+    let tally = run_file(rt, entry);
     print_entry(entry);
-    print_decimal(STDOUT_FILENO, tally.passed);
+    print_decimal(STDOUT, tally.passed);
     print(b" of ");
-    print_decimal(STDOUT_FILENO, tally.tried);
+    print_decimal(STDOUT, tally.tried);
     print(b"\n");
     tally
 }
 
-fn run_list(list: &[u8]) -> Tally {
+fn run_list(rt: &HostRuntime, list: &[u8]) -> Tally {
     let end = rows(list);
     let mut tally = Tally::before(end);
     let mut k = 0;
     while k < end {
         k += 1;
-        tally = tally.plus(run_entry(line(list, k)));
+        tally = tally.plus(run_entry(rt, line(list, k)));
     }
     tally
 }
@@ -153,21 +176,21 @@ fn print_verdict(tally: Tally) {
     print(b"vectors: ");
     if tally.passed == tally.tried {
         print(b"all ");
-        print_decimal(STDOUT_FILENO, tally.tried);
+        print_decimal(STDOUT, tally.tried);
         print(b" trials as expected\n");
         return;
     }
     print_decimal(
-        STDOUT_FILENO,
+        STDOUT,
         std::num::wrapping_sub_u64(tally.tried, tally.passed),
     );
     print(b" of ");
-    print_decimal(STDOUT_FILENO, tally.tried);
+    print_decimal(STDOUT, tally.tried);
     print(b" trials differ\n");
 }
 
-fn main() {
+fn main(rt: HostRuntime) {
     let mut buf = io::buffer();
-    let n = load(b"trials.tsv", &mut buf);
-    print_verdict(run_list(&buf[..n]));
+    let n = load(&rt, b"trials.tsv", &mut buf);
+    print_verdict(run_list(&rt, &buf[..n]));
 }

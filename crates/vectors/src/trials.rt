@@ -7,6 +7,7 @@ use crate::list::{
     BLOCKS, COUNTER_BLOCKS, DERIVED, EMPTY, FEEDS, INPUT, K1, KEY, LINES, MESSAGE, OUTPUT, PARTS,
     TAG, WORDS, ZERO,
 };
+use buffers::compare::bytes_equal;
 use buffers::parts::copy_fitting;
 use cipher::aes::aes128_encrypt;
 use cipher::cmac::{CmacState, cmac_tag};
@@ -47,7 +48,7 @@ fn empty_passes(key: [u8; 16], subkey: [u8; 16]) -> bool {
     padded[0] = padded[0] ^ 0x80;
     let tag = cmac_tag(key, part(&padded, 0, 0));
     let encrypted = aes128_encrypt(key, padded);
-    check::same(&tag, &encrypted)
+    bytes_equal(&tag, &encrypted)
 }
 
 fn put_at_1(out: &mut [u8], bytes: &[u8]) {
@@ -68,7 +69,7 @@ fn parts_pass(key: [u8; 16], label: &[u8], at: usize) -> bool {
     whole[size + 5] = 0x80;
     let tag = cmac_tag(key, part(&whole, 0, size + 6));
     let found = kdf_counter_cmac(key, part(label, 0, at), part(label, at, LONGEST));
-    check::same(&found, &tag)
+    bytes_equal(&found, &tag)
 }
 
 fn fed_twice(key: [u8; 16], first: &[u8], second: &[u8]) -> [u8; 16] {
