@@ -172,7 +172,7 @@ make_crate() {
 tell() {
     now=$(date +%s)
     if [ -z "$told" ]; then
-        [ $((now - since)) -lt 2 ] || announce "$1"
+        [ $((now - since)) -lt 4 ] || announce "$1"
     elif [ $((now - quiet)) -ge 30 ]; then
         report "still proving $1, $((now - since)) s so far"
     fi
