@@ -43,6 +43,7 @@ first_in [] h = absurd (omega arith)
 first_in (n ∷ l) h = Memᴰ.head refl
 
 only-name : (l : List Name) (n : Name) → Memᴰ n l → length l < 2 → first_name l ≡ n
+only-name [] n x h = elim x [ ]
 only-name (x ∷ l) n (Memᴰ.head e) h = sym e
 only-name (x ∷ l) n (Memᴰ.tail k) h = absurd (omega (arith, in-length l n k))
 

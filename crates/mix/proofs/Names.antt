@@ -37,6 +37,7 @@ selected_in t (m ∷ l) n h = split (t m)
     (λ e. let r = selected_in t l n (rw e at h) in (Memᴰ.tail r.0, r.1))
 
 pub in_selected : (t : Name → Bool) (l : List Name) (n : Name) → Memᴰ n l → t n ≡ true → Memᴰ n (selected t l)
+in_selected t [] n x h = elim x [ ]
 in_selected t (m ∷ l) n (Memᴰ.head z) h = rw (rw z at h) (Memᴰ.head z)
 in_selected t (m ∷ l) n (Memᴰ.tail k) h = split (t m)
     (λ e. rw e (Memᴰ.tail (in_selected t l n k h)))
@@ -65,6 +66,7 @@ distinct-selected t (m ∷ l) h =
 
 -- two names in a list, and a list of one
 pub two_in : (l : List Name) (a b : Name) → Memᴰ a l → Memᴰ b l → a ≢ b → 2 ≤ length l
+two_in [] a b j k h = elim j [ ]
 two_in (x ∷ []) a b (Memᴰ.head p) (Memᴰ.head q) h = absurd (h (p ∙ sym q))
 two_in (x ∷ []) a b (Memᴰ.tail p) k h = absurd (Memᴰ.not-nil p)
 two_in (x ∷ []) a b (Memᴰ.head p) (Memᴰ.tail q) h = absurd (Memᴰ.not-nil q)

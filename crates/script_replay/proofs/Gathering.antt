@@ -9,7 +9,7 @@ use borrow.Rule.Slice.PartMut.{put_mid}
 use lib.Dec.{eqb, leb}
 use lib.ListN.{length, take, drop, length-take, length-drop, length-append, drop_of_length-le}
 use lib.Seq.{take_all, take-length, take-append-add, drop-drop}
-use Rattle.bytes.specs.Bytes.{slice, index_after, index_of}
+use Rattle.text.specs.Scan.{slice, index_of}
 use Rattle.buffers.proofs.Lists.{front, rest_part}
 use Rattle.buffers.proofs.Split.{split}
 use Rattle.text.specs.Parts.{newline}
@@ -24,7 +24,6 @@ gathered room line part = record { len = length (held room line part); taken = t
 -- ---- the newline
 
 index-until : (s : List ℕ) → index_of newline s ≡ length (until_newline s)
-unfolding index_of index_after
 index-until [] = refl
 index-until (b ∷ s) = split (eqb b newline) (λ e. rw e refl) (λ e. rw e (ap suc (index-until s)))
 
@@ -35,7 +34,6 @@ take-until (b ∷ s) = split (eqb b newline) (λ e. rw e refl) (λ e. rw e (ap (
 -- `scan::find` on all of a read, and the part before what it found
 module _ (part : List ℕ) (end : ℕ) (e : end ≡ 0 + index_of newline (slice 0 (length part) part)) where
   pub found-until : end ≡ length (until_newline part)
-  unfolding slice
   found-until = e ∙ omega (arith, ap (index_of newline) (take-length part) ∙ index-until part)
 
   pub part-until : take (end - 0) (drop 0 part) ≡ until_newline part

@@ -7,6 +7,7 @@ ghost use Rattle.script_replay.specs.Stream.{ends_line, «taken» as Stream·tak
 use crate::step::LINE_LIMIT;
 use buffers::{numbers, parts};
 use text::parts::NEWLINE;
+use text::scan;
 
 // One byte more than a line may have, so that what is kept of a longer one is too long.
 pub const HELD_SIZE: usize = LINE_LIMIT + 1;
@@ -30,7 +31,7 @@ pub fn gather(part: &[u8], len: usize, line: &mut [u8]) -> Gathered
     ensures value { result ≡ record { len = length (held (length line.old) (take len line.old) part.now); taken = Stream·taken part.now; whole = ends_line part.now } }
     ensures line_after { line.new ≡ at_front (held (length line.old) (take len line.old) part.now) line.old }
 {
-    let end = bytes::scan::find(part, 0, part.len(), NEWLINE);
+    let end = scan::find(part, 0, part.len(), NEWLINE);
     let size = line.len();
     let at = numbers::least(len, size);
     let n = parts::copy_fitting(&part[0..end], &mut line[at..size]);

@@ -14,7 +14,7 @@ pub const LINE_LIMIT: usize = 1100;
 // Half of a line's bytes, which no field in hex gives more than.
 const HEX_SIZE: usize = 550;
 
-fn set_line_lem(
+fn set_line(
     kv: &mut [u8],
     rbp: &mut [u8],
     device_key: &[u8],
@@ -24,7 +24,7 @@ fn set_line_lem(
     requires { length line.now ≤ 1100 }
     ensures value { result ≡ length (set_line kv.old rbp.old device_key.now line.now).answer }
     ensures out_after { out.new ≡ at_front (set_line kv.old rbp.old device_key.now line.now).answer out.old }
-    ensures rbp_after { record { kv = kv.exit.now; rbp = rbp.new } ≡ (set_line kv.entry.now rbp.old device_key.now line.now).after }
+    ensures rbp_after { record { kv = kv.new; rbp = rbp.new } ≡ (set_line kv.old rbp.old device_key.now line.now).after }
 {
     let flags = decimal::parse_decimal(parts::field(line, 2), 4294967295);
     if !flags.ok {
@@ -73,7 +73,7 @@ fn get_line(
 fn remove_line(kv: &mut [u8], rbp: &mut [u8], line: &[u8], out: &mut [u8; ANSWER_SIZE]) -> usize
     ensures value { result ≡ length (remove_line kv.old rbp.old line.now).answer }
     ensures out_after { out.new ≡ at_front (remove_line kv.old rbp.old line.now).answer out.old }
-    ensures rbp_after { record { kv = kv.exit.now; rbp = rbp.new } ≡ (remove_line kv.entry.now rbp.old line.now).after }
+    ensures rbp_after { record { kv = kv.new; rbp = rbp.new } ≡ (remove_line kv.old rbp.old line.now).after }
 {
     let status = remove::remove(kv, rbp, parts::field(line, 1));
     answer::put_answer(status, b"", out)
@@ -89,14 +89,14 @@ pub fn step(
 ) -> usize
     ensures value { result ≡ length (Replay-step kv.old rbp.old device_key.now line.now).answer }
     ensures out_after { out.new ≡ at_front (Replay-step kv.old rbp.old device_key.now line.now).answer out.old }
-    ensures rbp_after { record { kv = kv.exit.now; rbp = rbp.new } ≡ (Replay-step kv.entry.now rbp.old device_key.now line.now).after }
+    ensures rbp_after { record { kv = kv.new; rbp = rbp.new } ≡ (Replay-step kv.old rbp.old device_key.now line.now).after }
     ensures upper_bound { result ≤ length out.new }
 {
     if LINE_LIMIT < line.len() {
         return answer::put_unreadable(out);
     }
     if command::is_command(line, 5, b"set") {
-        return set_line_lem(kv, rbp, device_key, line, out);
+        return set_line(kv, rbp, device_key, line, out);
     }
     if command::is_command(line, 2, b"get") {
         return get_line(kv, rbp, device_key, line, out);

@@ -1,0 +1,53 @@
+-- `mix::find::find_encoded_mix`: 1 and 2, then what the search gives with keys prepared from the device key.
+use mathlib.Core.Path.{sym, ap, ◌∙◌}
+use mathlib.Core.List.{List}
+use Prim.Native.Nat.{ℕ}
+use Rattle.cipher.specs.declared.kdf.DeviceKey.{DeviceKey}
+use Rattle.cipher.specs.Device.{prepared}
+use Rattle.mix.specs.Calls.{find_encoded_mix}
+use Rattle.spec.proofs.Status.{answer-refused}
+use Rattle.mix.proofs.FindLaws.{find-exact}
+use Rattle.mix.proofs.Tried.{key_is_sized}
+use Rattle.mix.proofs.Found.{guard_refuses}
+use Rattle.spec.specs.Status.{first_of}
+use Rattle.spec.specs.Decisions.{key_sized}
+use Rattle.store.specs.Parts.{area_tests}
+use Rattle.mix.proofs.find.find_encoded_mix.Goals as goal
+
+pub returns-then-mix_buf-lt-MAX_MIX : goal.returns-then-mix_buf-lt-MAX_MIX
+returns-then-mix_buf-lt-MAX_MIX c =
+    let a = c.args in
+    rw c.refused.ensures (sym ((find-exact a.kv.now a.rbp.now a.device_key.now).short a.session_id a.mix_buf.now c.if-mix_buf-lt-MAX_MIX.true))
+
+pub returns-then-early-ne-OK : goal.returns-then-early-ne-OK
+unfolding find_encoded_mix
+returns-then-early-ne-OK c =
+    let a = c.args in
+    let buf = a.mix_buf.now in
+    rw c.refused-then-early-ne-OK.ensures (answer-refused _ _ _ buf
+    (guard_refuses a.kv.now a.rbp.now a.device_key.now a.session_id buf c.if-mix_buf-lt-MAX_MIX.false _ c.guard_areas-early.ensures c.if-early-ne-OK.true)
+    c.if-early-ne-OK.true)
+
+pub array16-requires : goal.array16-requires
+array16-requires c =
+    let a = c.args in
+    key_is_sized a.kv.now a.rbp.now a.device_key.now (sym c.guard_areas-early.ensures ∙ c.if-early-ne-OK.false)
+
+pub prepare-device-requires : goal.prepare-device-requires
+prepare-device-requires c = (c.mix_table-mix.ensures, c.sbox_table-sub.ensures)
+
+pub find_prepared-requires : goal.find_prepared-requires
+unfolding prepared
+find_prepared-requires c =
+    let a = c.args in
+    let e = c.prepare-device.ensures in
+    let key = ap (λ (d : DeviceKey). d.key) e ∙ c.array16.ensures in
+    let g = ap (λ (k : List ℕ). first_of (area_tests a.kv.now a.rbp.now (key_sized k))) key ∙ sym c.guard_areas-early.ensures ∙ c.if-early-ne-OK.false in
+    record { key_value = (g, c.if-mix_buf-lt-MAX_MIX.false); ready = (c.mix_table-mix.ensures, c.sbox_table-sub.ensures, e ∙ ap prepared (sym (ap (λ (d : DeviceKey). d.key) e))) }
+
+pub returns : goal.returns
+unfolding prepared
+returns c =
+    let a = c.args in
+    let key = ap (λ (d : DeviceKey). d.key) c.prepare-device.ensures ∙ c.array16.ensures in
+    c.find_prepared.ensures ∙ ap (λ (k : List ℕ). find_encoded_mix a.kv.now a.rbp.now k a.session_id a.mix_buf.now) key
