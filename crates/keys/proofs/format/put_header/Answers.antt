@@ -2,7 +2,6 @@
 use mathlib.Core.Path.{◌≡◌, refl}
 use mathlib.Core.List.{◌++◌}
 use lib.ListN.{drop}
-use borrow.Author.Rules.{rules}
 use Rattle.buffers.specs.Bytes.{le_bytes}
 use Rattle.keys.specs.KeyFile.{mark, key_file_header}
 use Rattle.buffers.proofs.Lists.{behind}

@@ -1,7 +1,7 @@
 -- `keys::key_name::key_digits`. The invariant: the digits still to come, then those in place, are the identifier's.
 use mathlib.Core.Path.{◌≡◌}
 use mathlib.Core.List.{◌++◌}
-use Prim.Native.Nat.{◌-◌, ◌^◌, ◌≤◌, ◌<◌}
+use Prim.Native.Nat.{◌^◌, ◌≤◌, ◌<◌}
 use lib.ListN.{length, drop}
 use Rattle.spec.specs.Name.{hex_digits}
 use Rattle.keys.proofs.key_name.key_digits.Given as goal
