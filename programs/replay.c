@@ -1,7 +1,7 @@
 /*
  * replay: plays a script of calls from standard input, and prints each answer to standard output.
  *
- * What a line means and which bytes answer it is proved (crates/script_replay), and that the loops around it are safe and end (crates/replay). Here are
+ * What a line means and which bytes answer it is proved (crates/script_replay), and that the loops around it are safe and end (crates/replay, replay_c). Here are
  * the usage, what the system says of an error, and the exit status. Whoever closes the other end of a pipe ends it by SIGPIPE, as every filter.
  */
 #include <errno.h>

@@ -30,8 +30,8 @@ make_player() {
     why="the player can't be written"
     say "proving what the player stands on: about three minutes on two cores from nothing, seconds where nothing has changed"
     # shellcheck disable=SC2046 # a list of crates
-    prove $(below replay) || not_proved_player || return
-    inputs replay scripts/player.sh programs/replay.c | sha256sum >"$place/inputs"
+    prove $(below replay_c) || not_proved_player || return
+    inputs replay_c scripts/player.sh programs/replay.c | sha256sum >"$place/inputs"
     player_files >"$place/outputs"
     if cat "$place/inputs" "$place/outputs" | cmp -s - target/bin/replay.stamp; then
         say "the player is unchanged"
@@ -39,11 +39,11 @@ make_player() {
     fi
     say "proving and compiling the player"
     rm -f target/bin/replay target/bin/replay.stamp
-    make_crate replay || not_proved_player || return
+    make_crate replay_c || not_proved_player || return
     mkdir -p target/bin
     # What Rattle's library asks of the system beyond the C library is the kit's.
     kit=$(dirname "$(rt doc)")
-    "$cc" -std=c99 -O2 -Wall -Wextra -Wpedantic -Werror programs/replay.c crates/replay/out/libreplay.a "$kit/c/libos_c.a" -o target/bin/replay ||
+    "$cc" -std=c99 -O2 -Wall -Wextra -Wpedantic -Werror programs/replay.c crates/replay_c/out/libreplay_c.a "$kit/c/libos_c.a" -o target/bin/replay ||
         no_player "programs/replay.c does not compile, or does not link" || return
     player_files >"$place/outputs"
     cat "$place/inputs" "$place/outputs" >target/bin/replay.stamp

@@ -1,4 +1,4 @@
-// The program `replay`: a script is read from standard input, and each answer is written to standard output.
+// The player: a script is read from a reader, and each answer is written to a writer.
 //
 // No contract can say what the system reads or writes. What is proved here is that every function is safe and ends, and what the steps between
 // such calls do with the buffers (`specs/Turns`). What the bytes mean is proved in `script_replay`: `gather` cuts what was read into lines, `read_header`
@@ -29,13 +29,4 @@ pub fn play_script<R: io::Read + Copy, W: io::Write + Copy>(input: R, output: W)
         &mut answers,
         &mut line,
     )
-}
-
-// From standard input to standard output, with the answer of `play_script`. The handles have no bytes: in C this is
-// `uint32_t securestore_replay(void)`.
-#[unsafe(no_mangle)]
-pub extern "C" fn securestore_replay(input: io::Stdin, output: io::Stdout) -> u32
-    ensures { result ≤ 2 }
-{
-    play_script(input, output)
 }
