@@ -28,7 +28,7 @@ player_files() {
 # Proves the player and builds it, unless it is there and of the same inputs. Where that fails, none is left, and `why` says what failed.
 make_player() {
     why="the player can't be written"
-    say "proving what the player stands on: about five minutes on two cores from nothing, seconds where nothing has changed"
+    say "proving what the player stands on: about four minutes on two cores from nothing, seconds where nothing has changed"
     # shellcheck disable=SC2046 # a list of crates
     prove $(below replay_c) || not_proved_player || return
     inputs replay_c scripts/player.sh programs/replay.c | sha256sum >"$place/inputs"
