@@ -60,6 +60,16 @@ pub fn copy_fitting(src: &[u8], dst: &mut [u8]) -> usize
     room
 }
 
+// The bytes of a part, as an array of their number.
+pub fn array<const N: usize>(s: &[u8]) -> [u8; N]
+    requires { length s.now ≡ N }
+    ensures { result ≡ s.now }
+{
+    let mut a = [0u8; N];
+    a.copy_from_slice(s);
+    a
+}
+
 pub fn array16(s: &[u8]) -> [u8; 16]
     requires { length s.now ≡ 16 }
     ensures { result ≡ s.now }
