@@ -9,8 +9,8 @@ use borrow.Author.Tests.{lt-ltb, le-ltb, leb-true, le-leb, lt-leb}
 use lib.Dec.{leb, ltb}
 use lib.ListN.{length, get_or, drop, set, length-set, length-append}
 use lib.Seq.{drop-cons, get_or-set_same, drop-set-lt}
-use Rattle.text.specs.declared.decimal.Decimal.{Decimal}
-use Rattle.text.specs.Decimal.{all_digits, is_decimal, value_after, decimal_value, decimal, read, places_before, places, digits, decimal_text}
+use Rattle.std.specs.Prelude.{Option, Some, None, IfSome}
+use Rattle.text.specs.Decimal.{all_digits, is_decimal, value_after, decimal_value, read, places_before, places, digits, decimal_text}
 use Rattle.text.proofs.Split.{split, and-false}
 use Rattle.text.proofs.HexSteps.{within_true, within-below, within-above}
 
@@ -42,26 +42,26 @@ module _ (s : List ℕ) (i : ℕ) (h : i < length s) where
 -- ---- what is read
 
 module _ (s : List ℕ) (most : ℕ) where
-  pub read-bad : is_decimal s ≡ false → decimal false 0 ≡ read s most
+  pub read-bad : is_decimal s ≡ false → None ≡ read s most
   unfolding read
   read-bad e = rw e
 
-  pub read-over : most < decimal_value s → decimal false 0 ≡ read s most
+  pub read-over : most < decimal_value s → None ≡ read s most
   unfolding read
   read-over h = rw (and-false (is_decimal s) (lt-leb (decimal_value s) most h))
 
-  pub read-good : is_decimal s ≡ true → decimal_value s ≤ most → decimal true (decimal_value s) ≡ read s most
+  pub read-good : is_decimal s ≡ true → decimal_value s ≤ most → Some (decimal_value s) ≡ read s most
   unfolding read
   read-good e h = rw (e, le-leb (decimal_value s) most h)
 
   -- what is read is never over the most
-  value-within : (read s most).value ≤ most
+  value-within : IfSome (read s most) (λ n. n ≤ most)
   unfolding read
   value-within = split (is_decimal s)
-      (λ e. split (leb (decimal_value s) most) (λ f. rw (e, f) (leb-true (decimal_value s) most f)) (λ f. rw (e, f) (omega arith)))
-      (λ e. rw e (omega arith))
+      (λ e. split (leb (decimal_value s) most) (λ f. rw (e, f) (leb-true (decimal_value s) most f)) (λ f. rw (e, f) tt))
+      (λ e. rw e tt)
 
-  pub with_bound : (r : Decimal) → r ≡ read s most → (r ≡ read s most) × (r.value ≤ most)
+  pub with_bound : (r : Option ℕ) → r ≡ read s most → (r ≡ read s most) × IfSome r (λ n. n ≤ most)
   with_bound r e = (e, rw e value-within)
 
 pub empty-bad : (s : List ℕ) → length s < 1 → is_decimal s ≡ false

@@ -7,40 +7,40 @@ use borrow.Author.Tests.{le-leb, lt-leb}
 use native.Mathlib.Omega.{arith}
 use lib.ListN.{length, drop, length-append}
 use lib.Seq.{drop_at}
-use Rattle.text.specs.declared.hex.Coded.{Coded}
-use Rattle.text.specs.Written.{writes, coded, answer, left}
+use Rattle.std.specs.Prelude.{Option, Some, None, IfSome}
+use Rattle.text.specs.Written.{writes, answer, left}
 use Rattle.text.specs.Laws.{WriteLaws}
 use Rattle.text.proofs.Split.{split, and-false}
 
 module _ (good : Bool) (bytes out : List ℕ) where
-  refused-both : writes good bytes out ≡ false → (coded false 0 ≡ answer good bytes out) × (out ≡ left good bytes out)
+  refused-both : writes good bytes out ≡ false → (None ≡ answer good bytes out) × (out ≡ left good bytes out)
   unfolding answer left
   refused-both e = rw e (refl, refl)
 
-  pub bad : good ≡ false → (coded false 0 ≡ answer good bytes out) × (out ≡ left good bytes out)
+  pub bad : good ≡ false → (None ≡ answer good bytes out) × (out ≡ left good bytes out)
   bad e = refused-both (rw e)
 
-  pub no_room : length out < length bytes → (coded false 0 ≡ answer good bytes out) × (out ≡ left good bytes out)
+  pub no_room : length out < length bytes → (None ≡ answer good bytes out) × (out ≡ left good bytes out)
   no_room h = refused-both (and-false good (lt-leb (length bytes) (length out) h))
 
   pub wrote : (n : ℕ) → good ≡ true → n ≡ length bytes → length bytes ≤ length out
-      → (coded true n ≡ answer good bytes out) × (bytes ++ drop n out ≡ left good bytes out)
+      → (Some n ≡ answer good bytes out) × (bytes ++ drop n out ≡ left good bytes out)
   unfolding answer left
   wrote n g e h = rw (g, le-leb (length bytes) (length out) h, e) (refl, refl)
 
   -- what is counted is in the buffer
-  count-within : (answer good bytes out).count ≤ length (left good bytes out)
+  count-within : IfSome (answer good bytes out) (λ n. n ≤ length (left good bytes out))
   unfolding answer left
-  count-within = split (writes good bytes out) (λ e. rw e (omega (arith, length-append bytes (drop (length bytes) out)))) (λ e. rw e (omega arith))
+  count-within = split (writes good bytes out) (λ e. rw e (omega (arith, length-append bytes (drop (length bytes) out)))) (λ e. rw e tt)
 
-  pub all_three : (r : Coded) (last : List ℕ) → r ≡ answer good bytes out → last ≡ left good bytes out
-      → (r ≡ answer good bytes out) × ((last ≡ left good bytes out) × (r.count ≤ length last))
+  pub all_three : (r : Option ℕ) (last : List ℕ) → r ≡ answer good bytes out → last ≡ left good bytes out
+      → (r ≡ answer good bytes out) × ((last ≡ left good bytes out) × IfSome r (λ n. n ≤ length last))
   all_three r last p q = (p, (q, rw (p, q) count-within))
 
 -- ---- the laws
 
 fits : (bytes out behind : List ℕ) → length out ≡ length bytes
-    → (answer true bytes (out ++ behind) ≡ coded true (length bytes)) × (left true bytes (out ++ behind) ≡ bytes ++ behind)
+    → (answer true bytes (out ++ behind) ≡ Some (length bytes)) × (left true bytes (out ++ behind) ≡ bytes ++ behind)
 fits bytes out behind e =
     let told = wrote true bytes (out ++ behind) (length bytes) refl refl (omega (arith, length-append out behind)) in
     (sym told.0, sym told.1 ∙ ap (λ (l : List ℕ). bytes ++ l) (drop_at out behind (length bytes) e))

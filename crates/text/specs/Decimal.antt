@@ -2,9 +2,8 @@
 --   is_decimal, decimal_value      one or more digits, perhaps with leading zeros, and the number that they stand for
 --   read                         what is read from a text, where the number may be at most `most`
 --   places, digits, decimal_text  how many digits a number has, its last k digits, and its text
-use Rattle.std.specs.Prelude.{Bool, true, false, cond, ◌&&◌, List, [], ◌∷◌, ◌++◌, ℕ, zero, suc, ◌+◌, ◌-◌, ◌*◌, ◌/◌, ◌%◌, leb, ltb, length}
+use Rattle.std.specs.Prelude.{Bool, true, cond, ◌&&◌, List, [], ◌∷◌, ◌++◌, ℕ, zero, suc, ◌+◌, ◌-◌, ◌*◌, ◌/◌, ◌%◌, Option, Some, None, leb, ltb, length}
 use Rattle.text.specs.Hex.{within}
-use Rattle.text.specs.declared.decimal.Decimal.{Decimal}
 
 abbrev pub all_digits : List ℕ → Bool
 all_digits [] = true
@@ -21,12 +20,8 @@ value_after value (c ∷ s) = value_after (10 * value + (c - 0x30)) s
 abbrev pub decimal_value : List ℕ → ℕ
 decimal_value s = value_after 0 s
 
-abbrev pub decimal : Bool → ℕ → Decimal
-decimal true n = record { ok = true; value = n }
-decimal false n = record { ok = false; value = 0 }
-
-unfoldable pub read : List ℕ → ℕ → Decimal
-read s most = decimal (is_decimal s && leb (decimal_value s) most) (decimal_value s)
+unfoldable pub read : List ℕ → ℕ → Option ℕ
+read s most = cond (is_decimal s && leb (decimal_value s) most) (Some (decimal_value s)) None
 
 -- how many digits stand before the last ones where rest is left of a number; at most k are looked for
 abbrev pub places_before : ℕ → ℕ → ℕ

@@ -1,6 +1,6 @@
 -- What the words of this crate mean, in the library's own words: a word given another meaning breaks its law here, even where the code that is proved
 -- to compute it changes with it. `proofs/Theorems` has each statement with its proof.
-use Rattle.std.specs.Prelude.{◌≡◌, ◌↔◌, ◌⊎◌, true, false, cond, List, [], ◌∷◌, ◌++◌, ℕ, suc, ◌+◌, ◌-◌, ◌*◌, ◌/◌, ◌%◌, ◌^◌, ◌≤◌, ◌<◌, eqb, length, get_or, take, drop}
+use Rattle.std.specs.Prelude.{◌≡◌, ◌↔◌, ◌⊎◌, true, false, cond, List, [], ◌∷◌, ◌++◌, ℕ, suc, ◌+◌, ◌-◌, ◌*◌, ◌/◌, ◌%◌, ◌^◌, ◌≤◌, ◌<◌, Some, None, eqb, length, get_or, take, drop}
 use Rattle.std.specs.Borrow.{Bor}
 use Rattle.text.specs.Parts.{parts, tab, newline, lines, part_start, part_place}
 use Rattle.text.specs.Written.{answer, left}
@@ -47,9 +47,9 @@ pub record LineLaws : Type 0 where
 -- a buffer that is just long enough, with any bytes behind it; one that is too short; and an input that is not good
 pub record WriteLaws : Type 0 where
   pub fits : (bytes out behind : List ℕ) → length out ≡ length bytes
-      → (answer true bytes (out ++ behind) ≡ record { ok = true; count = length bytes }) × (left true bytes (out ++ behind) ≡ bytes ++ behind)
-  pub short : (bytes out : List ℕ) → length out < length bytes → (answer true bytes out ≡ record { ok = false; count = 0 }) × (left true bytes out ≡ out)
-  pub bad : (bytes out : List ℕ) → (answer false bytes out ≡ record { ok = false; count = 0 }) × (left false bytes out ≡ out)
+      → (answer true bytes (out ++ behind) ≡ Some (length bytes)) × (left true bytes (out ++ behind) ≡ bytes ++ behind)
+  pub short : (bytes out : List ℕ) → length out < length bytes → (answer true bytes out ≡ None) × (left true bytes out ≡ out)
+  pub bad : (bytes out : List ℕ) → (answer false bytes out ≡ None) × (left false bytes out ≡ out)
 
 -- "0123456789abcdef"
 abbrev pub lower_digits : List ℕ
@@ -82,9 +82,9 @@ pub record DecimalLaws : Type 0 where
   pub digit : (c : ℕ) (s : List ℕ) → decimal_value (c ∷ s) ≡ (c - 0x30) * 10 ^ length s + decimal_value s
   pub leading_zero : (s : List ℕ) → decimal_value (0x30 ∷ s) ≡ decimal_value s
   -- what is read: a good text of at most the most, and nothing else
-  pub taken : (s : List ℕ) (most : ℕ) → is_decimal s ≡ true → decimal_value s ≤ most → read s most ≡ record { ok = true; value = decimal_value s }
-  pub over : (s : List ℕ) (most : ℕ) → most < decimal_value s → read s most ≡ record { ok = false; value = 0 }
-  pub bad : (s : List ℕ) (most : ℕ) → is_decimal s ≡ false → read s most ≡ record { ok = false; value = 0 }
+  pub taken : (s : List ℕ) (most : ℕ) → is_decimal s ≡ true → decimal_value s ≤ most → read s most ≡ Some (decimal_value s)
+  pub over : (s : List ℕ) (most : ℕ) → most < decimal_value s → read s most ≡ None
+  pub bad : (s : List ℕ) (most : ℕ) → is_decimal s ≡ false → read s most ≡ None
   -- a written number is read back, and has no zero in front of another digit
   pub back : (n : ℕ) → n < 2 ^ 64 → (is_decimal (decimal_text n) ≡ true) × (decimal_value (decimal_text n) ≡ n)
   pub fewest : (n : ℕ) → n < 2 ^ 64 → 1 < length (decimal_text n) → 0x30 < get_or (decimal_text n) 0 0

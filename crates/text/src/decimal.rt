@@ -1,25 +1,7 @@
 // Numbers in decimal: read with any leading zeros, written with none.
-ghost use Rattle.std.specs.Prelude.{◌≡◌, true, false, ◌++◌, ◌≤◌, length, drop};
-ghost use Rattle.text.specs.Decimal.{decimal as Decimal·decimal, read, places as Decimal·places, digits, decimal_text};
+ghost use Rattle.std.specs.Prelude.{◌≡◌, true, ◌++◌, ◌≤◌, IfSome, length, drop};
+ghost use Rattle.text.specs.Decimal.{read, places as Decimal·places, digits, decimal_text};
 ghost use Rattle.text.specs.Written.{answer, left};
-
-use crate::hex::{Coded, refused};
-
-// What was read. A refusal has the value 0, so that the value is never over what was asked.
-#[derive(Clone, Copy)]
-pub struct Decimal {
-    pub ok: bool,
-    pub value: u64,
-}
-
-fn no_number() -> Decimal
-    ensures { result ≡ Decimal·decimal false 0 }
-{
-    Decimal {
-        ok: false,
-        value: 0,
-    }
-}
 
 fn wide(c: u8) -> u64
     ensures { result ≡ c }
@@ -29,34 +11,34 @@ fn wide(c: u8) -> u64
 
 // The number that one or more digits stand for, leading zeros allowed. Refused: no digits, another byte, and a number over most. The tests divide
 // and subtract, so that nothing wraps, and stop at once: what is over most after some digits stays over it.
-pub fn parse_decimal(text: &[u8], most: u64) -> Decimal
+pub fn parse_decimal(text: &[u8], most: u64) -> Option<u64>
     ensures value { result ≡ read text.now most }
-    ensures value_le_most { result.value ≤ most }
+    ensures value_le_most { IfSome result (λ value. value ≤ most) }
 {
     if text.len() < 1 {
-        return no_number();
+        return None;
     }
     let mut value: u64 = 0;
     let mut i = 0;
     while i < text.len() {
         let c = text[i];
         if c < b'0' {
-            return no_number();
+            return None;
         }
         if b'9' < c {
-            return no_number();
+            return None;
         }
         if most / 10 < value {
-            return no_number();
+            return None;
         }
         let d = wide(c - b'0');
         if most - 10 * value < d {
-            return no_number();
+            return None;
         }
         value = 10 * value + d;
         i += 1;
     }
-    Decimal { ok: true, value }
+    Some(value)
 }
 
 // How many digits a number has.
@@ -87,15 +69,15 @@ fn put_decimal(n: u64, k: usize, out: &mut [u8])
 }
 
 // A number in its fewest digits, to the front of out; the rest stays as it was. Refused where it does not fit.
-pub fn format_decimal(value: u64, out: &mut [u8]) -> Coded
+pub fn format_decimal(value: u64, out: &mut [u8]) -> Option<usize>
     ensures value { result ≡ answer true (decimal_text value) out.old }
     ensures out_after { out.new ≡ left true (decimal_text value) out.old }
-    ensures count_in_bounds { result.count ≤ length out.new }
+    ensures count_in_bounds { IfSome result (λ count. count ≤ length out.new) }
 {
     let k = places(value);
     if out.len() < k {
-        return refused();
+        return None;
     }
     put_decimal(value, k, out);
-    Coded { ok: true, count: k }
+    Some(k)
 }

@@ -1,24 +1,10 @@
 // Bytes as pairs of hex digits: read in either case, written in lower case.
-ghost use Rattle.std.specs.Prelude.{◌≡◌, true, false, ◌++◌, ◌*◌, ◌≤◌, ◌<◌, length, drop};
+ghost use Rattle.std.specs.Prelude.{◌≡◌, true, ◌++◌, ◌*◌, ◌≤◌, ◌<◌, IfSome, length, drop};
 ghost use Rattle.text.specs.Hex.{hex_value, all_hex_digits, is_hex, hex_bytes, hex_digit, hex_text};
-ghost use Rattle.text.specs.Written.{coded, answer, left};
+ghost use Rattle.text.specs.Written.{answer, left};
 
-// What a writer answers: whether it wrote, and how many bytes. A refusal has written none. The first two clauses of a writer's contract say all; the
-// third follows from them, so that a caller can take `&out[0..count]` without a proof.
-#[derive(Clone, Copy)]
-pub struct Coded {
-    pub ok: bool,
-    pub count: usize,
-}
-
-pub(crate) fn refused() -> Coded
-    ensures { result ≡ coded false 0 }
-{
-    Coded {
-        ok: false,
-        count: 0,
-    }
-}
+// A writer answers how many bytes it wrote; a refusal has written none. The first two clauses of its contract say all; the third follows from them,
+// so that a caller can take `&out[0..count]` without a proof.
 
 // The value of a digit, or 16 for any other byte.
 fn digit_value(c: u8) -> u8
@@ -78,23 +64,23 @@ fn put_pairs(text: &[u8], n: usize, out: &mut [u8])
 
 // The bytes that whole pairs of digits stand for, perhaps none, to the front of out; the rest stays as it was. Refused, with out untouched: an odd
 // number of digits, another byte, and more bytes than out has.
-pub fn decode_hex(text: &[u8], out: &mut [u8]) -> Coded
+pub fn decode_hex(text: &[u8], out: &mut [u8]) -> Option<usize>
     ensures value { result ≡ answer (is_hex text.now) (hex_bytes text.now) out.old }
     ensures out_after { out.new ≡ left (is_hex text.now) (hex_bytes text.now) out.old }
-    ensures count_in_bounds { result.count ≤ length out.new }
+    ensures count_in_bounds { IfSome result (λ count. count ≤ length out.new) }
 {
     let n = text.len() / 2;
     if text.len() % 2 != 0 {
-        return refused();
+        return None;
     }
     if out.len() < n {
-        return refused();
+        return None;
     }
     if !all_digits(text) {
-        return refused();
+        return None;
     }
     put_pairs(text, n, out);
-    Coded { ok: true, count: n }
+    Some(n)
 }
 
 fn put_digits(data: &[u8], out: &mut [u8])
@@ -110,17 +96,14 @@ fn put_digits(data: &[u8], out: &mut [u8])
 }
 
 // Two digits for each byte, to the front of out; the rest stays as it was. Refused where they do not fit.
-pub fn encode_hex(data: &[u8], out: &mut [u8]) -> Coded
+pub fn encode_hex(data: &[u8], out: &mut [u8]) -> Option<usize>
     ensures value { result ≡ answer true (hex_text «data».now) out.old }
     ensures out_after { out.new ≡ left true (hex_text «data».now) out.old }
-    ensures count_in_bounds { result.count ≤ length out.new }
+    ensures count_in_bounds { IfSome result (λ count. count ≤ length out.new) }
 {
     if out.len() / 2 < data.len() {
-        return refused();
+        return None;
     }
     put_digits(data, out);
-    Coded {
-        ok: true,
-        count: 2 * data.len(),
-    }
+    Some(2 * data.len())
 }

@@ -13,7 +13,7 @@ returns-then-out-k c =
     let size = text-length a.value in
     let count = c.places-k.ensures in
     let told = no_room true (decimal_text a.value) a.out.now (omega arith) in
-    let all = all_three true (decimal_text a.value) a.out.now _ _ (c.refused.ensures ∙ told.0) told.1 in
+    let all = all_three true (decimal_text a.value) a.out.now _ _ told.0 told.1 in
     record { value = all.0; out_after = all.1.0; count_in_bounds = all.1.1 }
 
 pub returns : goal.returns

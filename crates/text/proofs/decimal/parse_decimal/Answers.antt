@@ -12,7 +12,7 @@ use Rattle.text.proofs.decimal.parse_decimal.Goals as goal
 pub returns-then-text-lt1 : goal.returns-then-text-lt1
 returns-then-text-lt1 c =
     let a = c.args in
-    let all = with_bound a.text.now a.most _ (c.no_number.ensures ∙ read-bad a.text.now a.most (empty-bad a.text.now (omega arith))) in
+    let all = with_bound a.text.now a.most _ (read-bad a.text.now a.most (empty-bad a.text.now (omega arith))) in
     record { value = all.0; value_le_most = all.1 }
 
 pub loop-i-init : goal.loop-i-init
@@ -23,7 +23,7 @@ returns-then-c-lt48 c =
     let a = c.args in
     let l = c.loop-i in
     let other = sym l.invariant.3 ∙ digits-below a.text.now l.i (omega arith) (omega arith) in
-    let all = with_bound a.text.now a.most _ (c.no_number-then-c-lt48.ensures ∙ read-bad a.text.now a.most (other-bad a.text.now other)) in
+    let all = with_bound a.text.now a.most _ (read-bad a.text.now a.most (other-bad a.text.now other)) in
     record { value = all.0; value_le_most = all.1 }
 
 pub returns-then-c-gt57 : goal.returns-then-c-gt57
@@ -31,7 +31,7 @@ returns-then-c-gt57 c =
     let a = c.args in
     let l = c.loop-i in
     let other = sym l.invariant.3 ∙ digits_above a.text.now l.i (omega arith) (omega arith) in
-    let all = with_bound a.text.now a.most _ (c.no_number-then-c-gt57.ensures ∙ read-bad a.text.now a.most (other-bad a.text.now other)) in
+    let all = with_bound a.text.now a.most _ (read-bad a.text.now a.most (other-bad a.text.now other)) in
     record { value = all.0; value_le_most = all.1 }
 
 pub returns-then-most-value : goal.returns-then-most-value
@@ -39,7 +39,7 @@ returns-then-most-value c =
     let a = c.args in
     let l = c.loop-i in
     let over = value-over a.text.now l.i (omega arith) l.value a.most (omega arith) in
-    let all = with_bound a.text.now a.most _ (c.no_number-then-most-value.ensures ∙ read-over a.text.now a.most (omega (arith, l.invariant.2))) in
+    let all = with_bound a.text.now a.most _ (read-over a.text.now a.most (omega (arith, l.invariant.2))) in
     record { value = all.0; value_le_most = all.1 }
 
 pub returns-then-most-value-2 : goal.returns-then-most-value-2
@@ -48,7 +48,7 @@ returns-then-most-value-2 c =
     let a = c.args in
     let l = c.loop-i in
     let over = value-over a.text.now l.i (omega arith) l.value a.most (omega arith) in
-    let all = with_bound a.text.now a.most _ (c.no_number-then-most-value-2.ensures ∙ read-over a.text.now a.most (omega (arith, l.invariant.2))) in
+    let all = with_bound a.text.now a.most _ (read-over a.text.now a.most (omega (arith, l.invariant.2))) in
     record { value = all.0; value_le_most = all.1 }
 
 pub loop-i-preserved : goal.loop-i-preserved

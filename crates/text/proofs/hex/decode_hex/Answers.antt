@@ -10,7 +10,7 @@ pub returns-then-text-ne0 : goal.returns-then-text-ne0
 returns-then-text-ne0 c =
     let a = c.args in
     let told = bad (is_hex a.text.now) (hex_bytes a.text.now) a.out.now (odd-not-hex a.text.now (λ e. c.if-text-ne0.true (omega arith))) in
-    let all = all_three (is_hex a.text.now) (hex_bytes a.text.now) a.out.now _ _ (c.refused.ensures ∙ told.0) told.1 in
+    let all = all_three (is_hex a.text.now) (hex_bytes a.text.now) a.out.now _ _ told.0 told.1 in
     record { value = all.0; out_after = all.1.0; count_in_bounds = all.1.1 }
 
 pub returns-then-out-n : goal.returns-then-out-n
@@ -18,7 +18,7 @@ returns-then-out-n c =
     let a = c.args in
     let size = bytes-length a.text.now in
     let told = no_room (is_hex a.text.now) (hex_bytes a.text.now) a.out.now (omega arith) in
-    let all = all_three (is_hex a.text.now) (hex_bytes a.text.now) a.out.now _ _ (c.refused-then-out-n.ensures ∙ told.0) told.1 in
+    let all = all_three (is_hex a.text.now) (hex_bytes a.text.now) a.out.now _ _ told.0 told.1 in
     record { value = all.0; out_after = all.1.0; count_in_bounds = all.1.1 }
 
 pub returns-then-not-all_digits : goal.returns-then-not-all_digits
@@ -26,7 +26,7 @@ returns-then-not-all_digits c =
     let a = c.args in
     let other = sym c.all_digits.ensures ∙ c.if-not-all_digits.true in
     let told = bad (is_hex a.text.now) (hex_bytes a.text.now) a.out.now (other-not-hex a.text.now other) in
-    let all = all_three (is_hex a.text.now) (hex_bytes a.text.now) a.out.now _ _ (c.refused-then-not-all_digits.ensures ∙ told.0) told.1 in
+    let all = all_three (is_hex a.text.now) (hex_bytes a.text.now) a.out.now _ _ told.0 told.1 in
     record { value = all.0; out_after = all.1.0; count_in_bounds = all.1.1 }
 
 pub put_pairs-requires : goal.put_pairs-requires

@@ -12,7 +12,7 @@ returns-then-out-data c =
     let a = c.args in
     let size = text-length a.«data».now in
     let told = no_room true (hex_text a.«data».now) a.out.now (omega arith) in
-    let all = all_three true (hex_text a.«data».now) a.out.now _ _ (c.refused.ensures ∙ told.0) told.1 in
+    let all = all_three true (hex_text a.«data».now) a.out.now _ _ told.0 told.1 in
     record { value = all.0; out_after = all.1.0; count_in_bounds = all.1.1 }
 
 pub returns : goal.returns
