@@ -4,8 +4,9 @@
 --   may_follow                      a slot that is well shaped, and may stand behind another
 --   CanRead, CanInsert             a finding that can be read: a slot that is held is there, and in use; or be written
 --   insert_end                      how far an insert writes
---   payload_at, insert_at, erase_at   the slot that was found read, written, and taken out
+--   payload, payload_at, insert_at, erase_at   the slot that was found read, written, and taken out
 use Rattle.std.specs.Prelude.{◌≡◌, Bool, true, false, not, cond, ◌&&◌, List, [], ◌∷◌, ◌++◌, ℕ, suc, ◌≤◌, ◌<◌, get_or, set, take, drop}
+use Rattle.std.specs.Prelude.{Option, Some, None}
 use Rattle.std.proofs.Math.Option.{some}
 use Rattle.buffers.specs.Bytes.{is_some, zeros}
 use Rattle.spec.specs.Name.{Name}
@@ -35,6 +36,10 @@ module _ (F : Format) (area : List ℕ) where
   CanInsert found =
       (found.at < slot_count F area)
       × (found.held ≡ false → (found.at ≤ first_index slot_free (slots F area)) × (first_index slot_free (slots F area) < slot_count F area))
+
+  -- what it holds for the name, where the name is held
+  abbrev pub payload : Found → Option (List ℕ)
+  payload found = cond found.held (Some (slot_payload F (slot_at found.at))) None
 
   -- nothing, where the name is not held
   abbrev pub payload_at : Found → List ℕ

@@ -1,11 +1,12 @@
 // An area of slots, tested and edited where it is lent.
-ghost use Rattle.std.specs.Prelude.{◌≡◌, true, [], ◌++◌, ◌-◌, ◌≤◌, ◌<◌, length, get_or, take, drop};
+ghost use Rattle.std.specs.Prelude.{◌≡◌, true, [], ◌++◌, ◌-◌, ◌≤◌, ◌<◌, ◌&&◌, length, get_or, take, drop, IfSome};
+ghost use Rattle.std.specs.Option.{is_some, option_copied};
 ghost use Rattle.buffers.specs.Bytes.{zeros};
 ghost use Rattle.spec.specs.Slots.{first_index};
 ghost use Rattle.spec.specs.Area.{kv_format, payload_size, slot_free, slot_used, slot_valid, slot_name, make_slot, slot_count, slots, sized, intact, has_space};
 ghost use Rattle.spec.specs.Calls.{slot_has_prefix, next_match};
 ghost use Rattle.slots.specs.Kind.{format_of};
-ghost use Rattle.slots.specs.Found.{slot_for, found_in, slot_at, may_follow, CanRead, CanInsert, payload_at, insert_end, insert_at, erase_at};
+ghost use Rattle.slots.specs.Found.{slot_for, found_in, slot_at, may_follow, CanRead, CanInsert, payload, payload_at, insert_end, insert_at, erase_at};
 
 use crate::{AreaKind, slot};
 use buffers::{compare, parts};
@@ -265,4 +266,79 @@ pub fn name_at<'a>(kind: AreaKind, area: &'a [u8], i: usize) -> &'a [u8]
     ensures { result.now ≡ slot_name (format_of kind) (slot_at (format_of kind) area.now i) }
 {
     slot::slot_name(kind, slot_at(kind, area, i))
+}
+
+// An area of right length without damage, as long as it is lent.
+#[derive(Clone, Copy)]
+pub struct Area<'a> {
+    pub kind: AreaKind,
+    pub bytes: &'a [u8],
+    ghost sound: { (sized (format_of kind) bytes.now ≡ true) × (intact (format_of kind) bytes.now ≡ true) },
+}
+
+impl<'a> Area<'a> {
+    pub fn checked(kind: AreaKind, bytes: &'a [u8]) -> Option<Area<'a>>
+        ensures some { is_some result ≡ (sized (format_of kind) bytes.now && intact (format_of kind) bytes.now) }
+        ensures parts { IfSome result (λ area. (area.kind ≡ kind) × (area.bytes.now ≡ bytes.now)) }
+    {
+        if area_sized(kind, bytes) && area_intact(kind, bytes) {
+            Some(Area { kind, bytes })
+        } else {
+            None
+        }
+    }
+
+    pub fn slot_count(&self) -> usize
+        ensures { result ≡ slot_count (format_of self.now.kind) self.now.bytes.now }
+    {
+        slot_count(self.kind, self.bytes)
+    }
+
+    pub fn has_space(&self) -> bool
+        ensures { result ≡ has_space (format_of self.now.kind) self.now.bytes.now }
+    {
+        has_space(self.kind, self.bytes)
+    }
+
+    pub fn find(&self, name: &[u8]) -> Found
+        ensures { result ≡ found_in (format_of self.now.kind) self.now.bytes.now name.now }
+    {
+        find(self.kind, self.bytes, name)
+    }
+
+    // What the slot that was found holds for the name.
+    pub fn payload(&self, found: Found) -> Option<&'a [u8]>
+        requires { CanRead (format_of self.now.kind) self.now.bytes.now found }
+        ensures { option_copied result ≡ payload (format_of self.now.kind) self.now.bytes.now found }
+    {
+        if found.held {
+            Some(payload_at(self.kind, self.bytes, found))
+        } else {
+            None
+        }
+    }
+
+    // The name of a slot in use.
+    pub fn name_at(&self, i: usize) -> &'a [u8]
+        requires { (i < slot_count (format_of self.now.kind) self.now.bytes.now) × (slot_used (format_of self.now.kind) (slot_at (format_of self.now.kind) self.now.bytes.now i) ≡ true) }
+        ensures { result.now ≡ slot_name (format_of self.now.kind) (slot_at (format_of self.now.kind) self.now.bytes.now i) }
+    {
+        name_at(self.kind, self.bytes, i)
+    }
+
+    // Whether a slot of the card is used by a name with the prefix.
+    pub fn prefix_at(&self, prefix: &[u8], i: usize) -> bool
+        requires { (self.now.kind ≡ AreaKind.Kv) × (i < slot_count kv_format self.now.bytes.now) }
+        ensures { result ≡ slot_has_prefix prefix.now (slot_at kv_format self.now.bytes.now i) }
+    {
+        prefix_at(self.bytes, prefix, i)
+    }
+
+    // 01: the next slot of a "walk", which goes over the card
+    pub fn next_match(&self, prefix: &[u8], start: usize) -> usize
+        requires { self.now.kind ≡ AreaKind.Kv }
+        ensures { result ≡ next_match self.now.bytes.now prefix.now start }
+    {
+        next_match(self.bytes, prefix, start)
+    }
 }
