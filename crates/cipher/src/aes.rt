@@ -1,7 +1,7 @@
 // AES-128 (FIPS 197). Inside, the state is four 32-bit columns, each with its first byte highest.
 ghost use Rattle.std.specs.Prelude.{◌≡◌, ◌+◌, ◌*◌, ◌<◌, ◌≤◌, ◌++◌, length, take, drop};
-ghost use Rattle.cipher.specs.Sbox.{sub_byte, sbox};
-ghost use Rattle.cipher.specs.Tables.{mix_table, mix_word};
+ghost use Rattle.cipher.specs.Sbox.{sub_byte};
+ghost use Rattle.cipher.specs.Tables.{mix_word};
 ghost use Rattle.cipher.specs.Aes.{number_word, rot_word, sub_word, mix_column, diagonal, word_at, state_of, block_of};
 ghost use Rattle.cipher.specs.Aes.{sub_bytes, shift_rows, mix_columns, add_round_key, kept_key, encrypt_with};
 ghost use Rattle.cipher.specs.Aes.{word_number, rcon, next_round_key, state_numbers, expand_key, cipher, aes128};
@@ -9,7 +9,7 @@ ghost use Rattle.cipher.specs.Aes.{State, after_rounds};
 ghost use Rattle.cipher.specs.Columns.{columns_state, words_state};
 ghost use Rattle.cipher.specs.FirstRound.{last_column_part, shared_round};
 
-use crate::tables;
+use crate::tables::Tables;
 use buffers::numbers;
 
 #[derive(Clone, Copy)]
@@ -45,68 +45,65 @@ fn rotate_right_24(w: u32) -> u32
     w / 0x1000000 + (w % 0x1000000) * 0x100
 }
 
-fn substitute(s: &[u8; 256], b: u32) -> u32
-    requires { (s.now ≡ sbox) × (b < 256) }
+fn substitute(tables: &Tables, b: u32) -> u32
+    requires { b < 256 }
     ensures { result ≡ sub_byte b }
 {
-    s[b as usize] as u32
+    tables.sub[b as usize] as u32
 }
 
-fn mix_entry(t: &[u32; 256], b: u32) -> u32
-    requires { (t.now ≡ mix_table) × (b < 256) }
+fn mix_entry(tables: &Tables, b: u32) -> u32
+    requires { b < 256 }
     ensures { number_word result ≡ mix_word (sub_byte b) }
 {
-    t[b as usize]
+    tables.mix[b as usize]
 }
 
 // One column of SubBytes, ShiftRows and MixColumns: the table has each byte's part, rotated to the byte's row.
-fn mixed(t: &[u32; 256], a: u32, b: u32, c: u32, d: u32) -> u32
-    requires { t.now ≡ mix_table }
+fn mixed(tables: &Tables, a: u32, b: u32, c: u32, d: u32) -> u32
     ensures { number_word result ≡ mix_column (sub_word (diagonal (number_word a) (number_word b) (number_word c) (number_word d))) }
 {
-    let x = mix_entry(t, a / 0x1000000);
-    let y = rotate_right_8(mix_entry(t, b / 0x10000 % 256));
-    let z = rotate_right_16(mix_entry(t, c / 0x100 % 256));
-    let w = rotate_right_24(mix_entry(t, d % 256));
+    let x = mix_entry(tables, a / 0x1000000);
+    let y = rotate_right_8(mix_entry(tables, b / 0x10000 % 256));
+    let z = rotate_right_16(mix_entry(tables, c / 0x100 % 256));
+    let w = rotate_right_24(mix_entry(tables, d % 256));
     x ^ y ^ z ^ w
 }
 
 // The bytes 1 and 2 of an entry are the substitute itself.
-fn entry_high(t: &[u32; 256], b: u32) -> u32
-    requires { (t.now ≡ mix_table) × (b < 256) }
+fn entry_high(tables: &Tables, b: u32) -> u32
+    requires { b < 256 }
     ensures { result ≡ sub_byte b }
 {
-    mix_entry(t, b) / 0x10000 % 256
+    mix_entry(tables, b) / 0x10000 % 256
 }
 
-fn entry_low(t: &[u32; 256], b: u32) -> u32
-    requires { (t.now ≡ mix_table) × (b < 256) }
+fn entry_low(tables: &Tables, b: u32) -> u32
+    requires { b < 256 }
     ensures { result ≡ sub_byte b }
 {
-    mix_entry(t, b) / 0x100 % 256
+    mix_entry(tables, b) / 0x100 % 256
 }
 
 // One column of SubBytes and ShiftRows, for the last round. Each byte is read where its shift is the shortest.
-fn unmixed(t: &[u32; 256], a: u32, b: u32, c: u32, d: u32) -> u32
-    requires { t.now ≡ mix_table }
+fn unmixed(tables: &Tables, a: u32, b: u32, c: u32, d: u32) -> u32
     ensures { number_word result ≡ sub_word (diagonal (number_word a) (number_word b) (number_word c) (number_word d)) }
 {
-    let w = entry_high(t, a / 0x1000000);
-    let x = entry_high(t, b / 0x10000 % 256);
-    let y = entry_low(t, c / 0x100 % 256);
-    let z = entry_low(t, d % 256);
+    let w = entry_high(tables, a / 0x1000000);
+    let x = entry_high(tables, b / 0x10000 % 256);
+    let y = entry_low(tables, c / 0x100 % 256);
+    let z = entry_low(tables, d % 256);
     word(w, x, y, z)
 }
 
 // SubWord, for the key expansion.
-fn sub_word(s: &[u8; 256], w: u32) -> u32
-    requires { s.now ≡ sbox }
+fn sub_word(tables: &Tables, w: u32) -> u32
     ensures { number_word result ≡ sub_word (number_word w) }
 {
-    let b0 = substitute(s, w / 0x1000000);
-    let b1 = substitute(s, w / 0x10000 % 256);
-    let b2 = substitute(s, w / 0x100 % 256);
-    let b3 = substitute(s, w % 256);
+    let b0 = substitute(tables, w / 0x1000000);
+    let b1 = substitute(tables, w / 0x10000 % 256);
+    let b2 = substitute(tables, w / 0x100 % 256);
+    let b3 = substitute(tables, w % 256);
     word(b0, b1, b2, b3)
 }
 
@@ -135,27 +132,25 @@ pub(crate) fn add(a: Columns, b: Columns) -> Columns
     }
 }
 
-fn mix_columns(t: &[u32; 256], s: Columns) -> Columns
-    requires { t.now ≡ mix_table }
+fn mix_columns(tables: &Tables, s: Columns) -> Columns
     ensures { columns_state result ≡ mix_columns (shift_rows (sub_bytes (columns_state s))) }
 {
     Columns {
-        c0: mixed(t, s.c0, s.c1, s.c2, s.c3),
-        c1: mixed(t, s.c1, s.c2, s.c3, s.c0),
-        c2: mixed(t, s.c2, s.c3, s.c0, s.c1),
-        c3: mixed(t, s.c3, s.c0, s.c1, s.c2),
+        c0: mixed(tables, s.c0, s.c1, s.c2, s.c3),
+        c1: mixed(tables, s.c1, s.c2, s.c3, s.c0),
+        c2: mixed(tables, s.c2, s.c3, s.c0, s.c1),
+        c3: mixed(tables, s.c3, s.c0, s.c1, s.c2),
     }
 }
 
-fn shift_rows(t: &[u32; 256], s: Columns) -> Columns
-    requires { t.now ≡ mix_table }
+fn shift_rows(tables: &Tables, s: Columns) -> Columns
     ensures { columns_state result ≡ shift_rows (sub_bytes (columns_state s)) }
 {
     Columns {
-        c0: unmixed(t, s.c0, s.c1, s.c2, s.c3),
-        c1: unmixed(t, s.c1, s.c2, s.c3, s.c0),
-        c2: unmixed(t, s.c2, s.c3, s.c0, s.c1),
-        c3: unmixed(t, s.c3, s.c0, s.c1, s.c2),
+        c0: unmixed(tables, s.c0, s.c1, s.c2, s.c3),
+        c1: unmixed(tables, s.c1, s.c2, s.c3, s.c0),
+        c2: unmixed(tables, s.c2, s.c3, s.c0, s.c1),
+        c3: unmixed(tables, s.c3, s.c0, s.c1, s.c2),
     }
 }
 
@@ -217,11 +212,11 @@ fn next_constant(i: usize, c: u32) -> u32
     if c < 0x80000000 { c * 2 } else { 0x1b000000 }
 }
 
-fn next_round_key(sub: &[u8; 256], i: usize, c: u32, k: Columns) -> Columns
-    requires { (sub.now ≡ sbox) × (c ≡ word_number (rcon i)) }
+fn next_round_key(tables: &Tables, i: usize, c: u32, k: Columns) -> Columns
+    requires { c ≡ word_number (rcon i) }
     ensures { columns_state result ≡ next_round_key i (columns_state k) }
 {
-    let c0 = k.c0 ^ (sub_word(sub, rotate_right_24(k.c3)) ^ c);
+    let c0 = k.c0 ^ (sub_word(tables, rotate_right_24(k.c3)) ^ c);
     let c1 = k.c1 ^ c0;
     let c2 = k.c2 ^ c1;
     let c3 = k.c3 ^ c2;
@@ -240,8 +235,7 @@ fn put_round_key(keys: &mut [u32], r: usize, k: Columns)
 }
 
 // The 44 words of FIPS 197's key expansion, each with its first byte highest, with the S-box lent.
-pub(crate) fn expand_into(sub: &[u8; 256], key: &[u8; 16], keys: &mut [u32; 44])
-    requires { sub.now ≡ sbox }
+pub(crate) fn expand_into(tables: &Tables, key: &[u8; 16], keys: &mut [u32; 44])
     ensures { keys.new ≡ expand_key key.now }
 {
     let mut k = load(key);
@@ -249,7 +243,7 @@ pub(crate) fn expand_into(sub: &[u8; 256], key: &[u8; 16], keys: &mut [u32; 44])
     let mut c: u32 = 0x01000000;
     let mut r = 0;
     while r < 10 {
-        k = next_round_key(sub, r, c, k);
+        k = next_round_key(tables, r, c, k);
         c = next_constant(r, c);
         r += 1;
         put_round_key(keys, r, k);
@@ -260,15 +254,15 @@ pub(crate) fn expand_into(sub: &[u8; 256], key: &[u8; 16], keys: &mut [u32; 44])
 pub fn expand_key(key: &[u8; 16]) -> [u32; 44]
     ensures { result ≡ expand_key key.now }
 {
-    let sub = tables::sbox_table();
+    let tables = Tables::new();
     let mut keys = [0u32; 44];
-    expand_into(&sub, key, &mut keys);
+    expand_into(&tables, key, &mut keys);
     keys
 }
 
 // The rounds after the first `from`, the last one too. Columns are passed as numbers, which stay in registers.
 fn rounds_from(
-    t: &[u32; 256],
+    tables: &Tables,
     keys: &[u32; 44],
     from: usize,
     c0: u32,
@@ -276,82 +270,76 @@ fn rounds_from(
     c2: u32,
     c3: u32,
 ) -> Columns
-    requires { (t.now ≡ mix_table) × (from ≤ 9) }
+    requires { from ≤ 9 }
     ensures { (s : State) → words_state c0 c1 c2 c3 ≡ after_rounds (kept_key keys.now) from s → columns_state result ≡ cipher (kept_key keys.now) s }
 {
     let mut s = Columns { c0, c1, c2, c3 };
     let mut r = from;
     while r < 9 {
         r += 1;
-        s = add_round_key(keys, r, mix_columns(t, s));
+        s = add_round_key(keys, r, mix_columns(tables, s));
     }
-    add_round_key(keys, 10, shift_rows(t, s))
+    add_round_key(keys, 10, shift_rows(tables, s))
 }
 
 // A state encrypted under an expanded key, with the table lent.
 pub(crate) fn encrypt_words(
-    t: &[u32; 256],
+    tables: &Tables,
     keys: &[u32; 44],
     c0: u32,
     c1: u32,
     c2: u32,
     c3: u32,
 ) -> Columns
-    requires { t.now ≡ mix_table }
     ensures { columns_state result ≡ cipher (kept_key keys.now) (words_state c0 c1 c2 c3) }
 {
     let s = add_round_key(keys, 0, Columns { c0, c1, c2, c3 });
-    rounds_from(t, keys, 0, s.c0, s.c1, s.c2, s.c3)
+    rounds_from(tables, keys, 0, s.c0, s.c1, s.c2, s.c3)
 }
 
 // What the last column adds to the four columns of a round.
-fn last_column_part(t: &[u32; 256], w: u32) -> Columns
-    requires { t.now ≡ mix_table }
+fn last_column_part(tables: &Tables, w: u32) -> Columns
     ensures { columns_state result ≡ last_column_part (number_word w) }
 {
     Columns {
-        c0: rotate_right_24(mix_entry(t, w % 256)),
-        c1: rotate_right_16(mix_entry(t, w / 0x100 % 256)),
-        c2: rotate_right_8(mix_entry(t, w / 0x10000 % 256)),
-        c3: mix_entry(t, w / 0x1000000),
+        c0: rotate_right_24(mix_entry(tables, w % 256)),
+        c1: rotate_right_16(mix_entry(tables, w / 0x100 % 256)),
+        c2: rotate_right_8(mix_entry(tables, w / 0x10000 % 256)),
+        c3: mix_entry(tables, w / 0x1000000),
     }
 }
 
 // The first round of a state, without its last column's part.
-pub(crate) fn shared_round(t: &[u32; 256], keys: &[u32; 44], x: Columns) -> Columns
-    requires { t.now ≡ mix_table }
+pub(crate) fn shared_round(tables: &Tables, keys: &[u32; 44], x: Columns) -> Columns
     ensures { columns_state result ≡ shared_round (kept_key keys.now) (columns_state x) }
 {
     let s = add_round_key(keys, 0, x);
-    let after = add_round_key(keys, 1, mix_columns(t, s));
-    add(after, last_column_part(t, s.c3))
+    let after = add_round_key(keys, 1, mix_columns(tables, s));
+    add(after, last_column_part(tables, s.c3))
 }
 
 // The encryption of the state that has this last column, from what it shares of the first round.
-pub(crate) fn encrypt_shared(t: &[u32; 256], keys: &[u32; 44], shared: Columns, c3: u32) -> Columns
-    requires { t.now ≡ mix_table }
+pub(crate) fn encrypt_shared(tables: &Tables, keys: &[u32; 44], shared: Columns, c3: u32) -> Columns
     ensures { (s : State) → s.c3 ≡ number_word c3 → columns_state shared ≡ shared_round (kept_key keys.now) s → columns_state result ≡ cipher (kept_key keys.now) s }
 {
-    let x = add(shared, last_column_part(t, c3 ^ keys[3]));
-    rounds_from(t, keys, 1, x.c0, x.c1, x.c2, x.c3)
+    let x = add(shared, last_column_part(tables, c3 ^ keys[3]));
+    rounds_from(tables, keys, 1, x.c0, x.c1, x.c2, x.c3)
 }
 
 // A block under an expanded key, with the table lent.
-pub(crate) fn encrypt_block(t: &[u32; 256], keys: &[u32; 44], block: &[u8; 16]) -> [u8; 16]
-    requires { t.now ≡ mix_table }
+pub(crate) fn encrypt_block(tables: &Tables, keys: &[u32; 44], block: &[u8; 16]) -> [u8; 16]
     ensures { result ≡ encrypt_with keys.now block.now }
 {
     let s = load(block);
-    store(encrypt_words(t, keys, s.c0, s.c1, s.c2, s.c3))
+    store(encrypt_words(tables, keys, s.c0, s.c1, s.c2, s.c3))
 }
 
 // AES-128: a block encrypted under a key.
 pub fn aes128_encrypt(key: [u8; 16], block: [u8; 16]) -> [u8; 16]
     ensures { result ≡ aes128 key block }
 {
-    let t = tables::mix_table();
-    let sub = tables::sbox_table();
+    let tables = Tables::new();
     let mut keys = [0u32; 44];
-    expand_into(&sub, &key, &mut keys);
-    encrypt_block(&t, &keys, &block)
+    expand_into(&tables, &key, &mut keys);
+    encrypt_block(&tables, &keys, &block)
 }

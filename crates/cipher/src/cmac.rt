@@ -1,15 +1,14 @@
 // CMAC over AES-128 (SP 800-38B).
 ghost use Rattle.std.specs.Prelude.{◌≡◌, ◌+◌, ◌-◌, ◌*◌, ◌/◌, ◌%◌, ◌<◌, ◌≤◌, ◌++◌, length, replicate};
-ghost use Rattle.cipher.specs.Sbox.{sbox};
-ghost use Rattle.cipher.specs.Tables.{mix_table};
 ghost use Rattle.cipher.specs.Aes.{block_of, encrypt_with};
 ghost use Rattle.cipher.specs.Columns.{columns_state};
 ghost use Rattle.cipher.specs.Cmac.{double, chain, cmac_over, cmac};
 ghost use Rattle.cipher.specs.CmacState.{keyed, begun, fed, finished, xor_from, closed_block};
 ghost use Rattle.cipher.specs.Pending.{state_with, none_pending};
 
+use crate::aes;
 use crate::aes::Columns;
-use crate::{aes, tables};
+use crate::tables::Tables;
 use buffers::{numbers, parts};
 
 // The running state: the chaining block with the pending bytes added to it, their count, and the expanded key.
@@ -74,15 +73,14 @@ fn add_bytes(block: [u8; 16], at: usize, data: &[u8]) -> [u8; 16]
 }
 
 // Whole blocks of a message, each added and then encrypted.
-fn chain_blocks(t: &[u32; 256], keys: &[u32; 44], s: Columns, data: &[u8]) -> Columns
-    requires { t.now ≡ mix_table }
+fn chain_blocks(tables: &Tables, keys: &[u32; 44], s: Columns, data: &[u8]) -> Columns
     ensures { block_of (columns_state result) ≡ chain (encrypt_with keys.now) (length «data».now / 16) (block_of (columns_state s)) «data».now }
 {
     let mut chained = s;
     let mut i = 0;
     while 16 <= data.len() - i {
         let x = aes::add(chained, aes::load_at(data, i));
-        chained = aes::encrypt_words(t, keys, x.c0, x.c1, x.c2, x.c3);
+        chained = aes::encrypt_words(tables, keys, x.c0, x.c1, x.c2, x.c3);
         i += 16;
     }
     chained
@@ -125,22 +123,21 @@ fn last_block(rest: &[u8], zero: Columns) -> Columns
 }
 
 // The block of zeros encrypted, from which the subkeys are made.
-pub(crate) fn zero_block(t: &[u32; 256], keys: &[u32; 44]) -> Columns
-    requires { t.now ≡ mix_table }
+pub(crate) fn zero_block(tables: &Tables, keys: &[u32; 44]) -> Columns
     ensures { block_of (columns_state result) ≡ encrypt_with keys.now (replicate 16 0) }
 {
-    aes::encrypt_words(t, keys, 0, 0, 0, 0)
+    aes::encrypt_words(tables, keys, 0, 0, 0, 0)
 }
 
 // Bytes behind a full block, which is encrypted now that another comes: whole blocks follow, and one to sixteen bytes are kept.
-fn absorb_behind(t: &[u32; 256], keys: &[u32; 44], block: [u8; 16], data: &[u8]) -> Pending
-    requires { (t.now ≡ mix_table) × (0 < length «data».now) }
+fn absorb_behind(tables: &Tables, keys: &[u32; 44], block: [u8; 16], data: &[u8]) -> Pending
+    requires { 0 < length «data».now }
     ensures { state_with result keys.now ≡ fed (record { block = block; pending = 16; keys = keys.now }) «data».now }
 {
     let full = aes::load(&block);
-    let next = aes::encrypt_words(t, keys, full.c0, full.c1, full.c2, full.c3);
+    let next = aes::encrypt_words(tables, keys, full.c0, full.c1, full.c2, full.c3);
     let end = before_last(data.len());
-    let chained = chain_blocks(t, keys, next, &data[..end]);
+    let chained = chain_blocks(tables, keys, next, &data[..end]);
     let last = &data[end..];
     Pending {
         block: add_bytes(aes::store(chained), 0, last),
@@ -149,8 +146,7 @@ fn absorb_behind(t: &[u32; 256], keys: &[u32; 44], block: [u8; 16], data: &[u8])
 }
 
 // Bytes fill the pending block first.
-pub(crate) fn absorb(t: &[u32; 256], keys: &[u32; 44], from: Pending, data: &[u8]) -> Pending
-    requires { t.now ≡ mix_table }
+pub(crate) fn absorb(tables: &Tables, keys: &[u32; 44], from: Pending, data: &[u8]) -> Pending
     ensures { state_with result keys.now ≡ fed (state_with from keys.now) «data».now }
 {
     let block = from.block;
@@ -163,22 +159,22 @@ pub(crate) fn absorb(t: &[u32; 256], keys: &[u32; 44], from: Pending, data: &[u8
             count: p + n,
         };
     }
-    absorb_behind(t, keys, filled, &data[n..])
+    absorb_behind(tables, keys, filled, &data[n..])
 }
 
 // The tag of what was absorbed.
-pub(crate) fn close(t: &[u32; 256], keys: &[u32; 44], zero: Columns, from: Pending) -> [u8; 16]
-    requires { (t.now ≡ mix_table) × (block_of (columns_state zero) ≡ encrypt_with keys.now (replicate 16 0)) }
+pub(crate) fn close(tables: &Tables, keys: &[u32; 44], zero: Columns, from: Pending) -> [u8; 16]
+    requires { block_of (columns_state zero) ≡ encrypt_with keys.now (replicate 16 0) }
     ensures { result ≡ (finished (state_with from keys.now)).block }
 {
     let block = from.block;
     let x = close_block(block, numbers::least(from.count, 16), zero);
-    aes::store(aes::encrypt_words(t, keys, x.c0, x.c1, x.c2, x.c3))
+    aes::store(aes::encrypt_words(tables, keys, x.c0, x.c1, x.c2, x.c3))
 }
 
 // The tag of a whole message under an expanded key.
-pub(crate) fn tag_of(t: &[u32; 256], keys: &[u32; 44], zero: Columns, message: &[u8]) -> [u8; 16]
-    requires { (t.now ≡ mix_table) × (block_of (columns_state zero) ≡ encrypt_with keys.now (replicate 16 0)) }
+pub(crate) fn tag_of(tables: &Tables, keys: &[u32; 44], zero: Columns, message: &[u8]) -> [u8; 16]
+    requires { block_of (columns_state zero) ≡ encrypt_with keys.now (replicate 16 0) }
     ensures { result ≡ cmac_over (encrypt_with keys.now) message.now }
 {
     let end = before_last(message.len());
@@ -188,10 +184,10 @@ pub(crate) fn tag_of(t: &[u32; 256], keys: &[u32; 44], zero: Columns, message: &
         c2: 0,
         c3: 0,
     };
-    let chained = chain_blocks(t, keys, start, &message[..end]);
+    let chained = chain_blocks(tables, keys, start, &message[..end]);
     let rest = &message[end..];
     let x = aes::add(chained, last_block(rest, zero));
-    aes::store(aes::encrypt_words(t, keys, x.c0, x.c1, x.c2, x.c3))
+    aes::store(aes::encrypt_words(tables, keys, x.c0, x.c1, x.c2, x.c3))
 }
 
 impl CmacState {
@@ -223,14 +219,14 @@ impl CmacState {
     pub fn feed(self, data: &[u8]) -> Self
         ensures { result ≡ fed self «data».now }
     {
-        let t = tables::mix_table();
+        let tables = Tables::new();
         let keys = self.keys;
         let block = self.block;
         let from = Pending {
             block,
             count: self.pending,
         };
-        let end = absorb(&t, &keys, from, data);
+        let end = absorb(&tables, &keys, from, data);
         let block = end.block;
         CmacState {
             block,
@@ -243,14 +239,14 @@ impl CmacState {
     pub fn finish(self) -> Self
         ensures { result ≡ finished self }
     {
-        let t = tables::mix_table();
+        let tables = Tables::new();
         let keys = self.keys;
         let block = self.block;
         let from = Pending {
             block,
             count: self.pending,
         };
-        let tag = close(&t, &keys, zero_block(&t, &keys), from);
+        let tag = close(&tables, &keys, zero_block(&tables, &keys), from);
         CmacState {
             block: tag,
             pending: 0,
@@ -263,27 +259,19 @@ impl CmacState {
 pub fn cmac_tag(key: [u8; 16], message: &[u8]) -> [u8; 16]
     ensures { result ≡ cmac key message.now }
 {
-    let t = tables::mix_table();
-    let sub = tables::sbox_table();
+    let tables = Tables::new();
     let mut keys = [0u32; 44];
-    aes::expand_into(&sub, &key, &mut keys);
-    tag_of(&t, &keys, zero_block(&t, &keys), message)
+    aes::expand_into(&tables, &key, &mut keys);
+    tag_of(&tables, &keys, zero_block(&tables, &keys), message)
 }
 
 // The tag of a message in two parts, with the tables lent.
-pub fn tag_parts(
-    mix: &[u32; 256],
-    sub: &[u8; 256],
-    key: [u8; 16],
-    first: &[u8],
-    second: &[u8],
-) -> [u8; 16]
-    requires { (mix.now ≡ mix_table) × (sub.now ≡ sbox) }
+pub fn tag_parts(tables: &Tables, key: [u8; 16], first: &[u8], second: &[u8]) -> [u8; 16]
     ensures { result ≡ cmac key (first.now ++ second.now) }
 {
     let mut keys = [0u32; 44];
-    aes::expand_into(sub, &key, &mut keys);
-    let start = absorb(mix, &keys, none_pending(), first);
-    let end = absorb(mix, &keys, start, second);
-    close(mix, &keys, zero_block(mix, &keys), end)
+    aes::expand_into(tables, &key, &mut keys);
+    let start = absorb(tables, &keys, none_pending(), first);
+    let end = absorb(tables, &keys, start, second);
+    close(tables, &keys, zero_block(tables, &keys), end)
 }

@@ -1,16 +1,15 @@
 // Counter mode over AES-128 (SP 800-38A, 6.5). The counter block is an 8-byte IV, then a 64-bit big-endian count.
 
 ghost use Rattle.std.specs.Prelude.{◌≡◌, ◌+◌, ◌%◌, ◌^◌, ◌≤◌, ◌++◌, length, take, drop};
-ghost use Rattle.cipher.specs.Sbox.{sbox};
-ghost use Rattle.cipher.specs.Tables.{mix_table};
 ghost use Rattle.cipher.specs.Aes.{number_word, word_at, word_bytes, xor_word, state_of, block_of, kept_key, encrypt_with};
 ghost use Rattle.cipher.specs.Columns.{columns_state};
 ghost use Rattle.cipher.specs.FirstRound.{shared_round};
 ghost use Rattle.cipher.specs.Cmac.{xor_bytes};
 ghost use Rattle.cipher.specs.Ctr.{counter_block, ctr_from, ctr_at, ctr};
 
+use crate::aes;
 use crate::aes::Columns;
-use crate::{aes, tables};
+use crate::tables::Tables;
 
 // The counter block as a state: the IV's two words, then the count's.
 fn counter_columns(iv: [u8; 8], count: u64) -> Columns
@@ -59,51 +58,50 @@ fn add_front(part: &mut [u8], stream: [u8; 16])
 
 // What the next counter block shares with those after it: the same, until the low word of the count starts again.
 fn next_shared(
-    t: &[u32; 256],
+    tables: &Tables,
     keys: &[u32; 44],
     iv: [u8; 8],
     count: u64,
     shared: Columns,
 ) -> Columns
-    requires { (t.now ≡ mix_table) × (columns_state shared ≡ shared_round (kept_key keys.now) (state_of (counter_block iv count))) }
+    requires { columns_state shared ≡ shared_round (kept_key keys.now) (state_of (counter_block iv count)) }
     ensures { columns_state result ≡ shared_round (kept_key keys.now) (state_of (counter_block iv ((count + 1) % 2 ^ 64))) }
 {
     let next = std::num::wrapping_add_u64(count, 1);
     if next % 0x100000000 == 0 {
-        return aes::shared_round(t, keys, counter_columns(iv, next));
+        return aes::shared_round(tables, keys, counter_columns(iv, next));
     }
     shared
 }
 
 // Whole blocks in place under an expanded key, the first one's count given.
-fn crypt_whole(t: &[u32; 256], keys: &[u32; 44], iv: [u8; 8], count: u64, buf: &mut [u8])
-    requires { (t.now ≡ mix_table) × (length buf.old % 16 ≡ 0) }
+fn crypt_whole(tables: &Tables, keys: &[u32; 44], iv: [u8; 8], count: u64, buf: &mut [u8])
+    requires { length buf.old % 16 ≡ 0 }
     ensures { buf.new ≡ ctr_from (encrypt_with keys.now) iv count 0 buf.old }
 {
-    let mut shared = aes::shared_round(t, keys, counter_columns(iv, count));
+    let mut shared = aes::shared_round(tables, keys, counter_columns(iv, count));
     let mut counter = count;
     let mut i: usize = 0;
     while i < buf.len() {
         let end = i + 16;
-        let s = aes::encrypt_shared(t, keys, shared, (counter % 0x100000000) as u32);
+        let s = aes::encrypt_shared(tables, keys, shared, (counter % 0x100000000) as u32);
         add_block(&mut buf[i..end], s);
-        shared = next_shared(t, keys, iv, counter, shared);
+        shared = next_shared(tables, keys, iv, counter, shared);
         counter = std::num::wrapping_add_u64(counter, 1);
         i = end;
     }
 }
 
 // A buffer encrypted or decrypted in place under an expanded key, the first block's count given: whole blocks, then the last partial one.
-fn crypt_blocks(t: &[u32; 256], keys: &[u32; 44], iv: [u8; 8], count: u64, buf: &mut [u8])
-    requires { t.now ≡ mix_table }
+fn crypt_blocks(tables: &Tables, keys: &[u32; 44], iv: [u8; 8], count: u64, buf: &mut [u8])
     ensures { buf.new ≡ ctr_from (encrypt_with keys.now) iv count 0 buf.old }
 {
     let n = buf.len();
     let end = n / 16 * 16;
-    crypt_whole(t, keys, iv, count, &mut buf[..end]);
+    crypt_whole(tables, keys, iv, count, &mut buf[..end]);
     if end < n {
         let x = counter_columns(iv, std::num::wrapping_add_u64(count, (n / 16) as u64));
-        let s = aes::encrypt_words(t, keys, x.c0, x.c1, x.c2, x.c3);
+        let s = aes::encrypt_words(tables, keys, x.c0, x.c1, x.c2, x.c3);
         add_front(&mut buf[end..n], aes::store(s));
     }
 }
@@ -112,21 +110,19 @@ fn crypt_blocks(t: &[u32; 256], keys: &[u32; 44], iv: [u8; 8], count: u64, buf: 
 pub fn ctr_xor_at(key: [u8; 16], iv: [u8; 8], count: u64, buf: &mut [u8])
     ensures { buf.new ≡ ctr_at key iv count buf.old }
 {
-    let t = tables::mix_table();
-    let sub = tables::sbox_table();
+    let tables = Tables::new();
     let mut keys = [0u32; 44];
-    aes::expand_into(&sub, &key, &mut keys);
-    crypt_blocks(&t, &keys, iv, count, buf)
+    aes::expand_into(&tables, &key, &mut keys);
+    crypt_blocks(&tables, &keys, iv, count, buf)
 }
 
 // A buffer encrypted or decrypted in place, the count from 0, with the tables lent.
-pub fn crypt(mix: &[u32; 256], sub: &[u8; 256], key: [u8; 16], iv: [u8; 8], buf: &mut [u8])
-    requires { (mix.now ≡ mix_table) × (sub.now ≡ sbox) }
+pub fn crypt(tables: &Tables, key: [u8; 16], iv: [u8; 8], buf: &mut [u8])
     ensures { buf.new ≡ ctr key iv buf.old }
 {
     let mut keys = [0u32; 44];
-    aes::expand_into(sub, &key, &mut keys);
-    crypt_blocks(mix, &keys, iv, 0, buf)
+    aes::expand_into(tables, &key, &mut keys);
+    crypt_blocks(tables, &keys, iv, 0, buf)
 }
 
 // A buffer encrypted or decrypted in place, the count from 0.

@@ -1,16 +1,14 @@
 // Key derivation in counter mode over CMAC (SP 800-108, 5.1), one block of output.
 
 ghost use Rattle.std.specs.Prelude.{◌≡◌, ◌++◌, replicate, if◌then◌else◌};
-ghost use Rattle.cipher.specs.Sbox.{sbox};
-ghost use Rattle.cipher.specs.Tables.{mix_table};
 ghost use Rattle.cipher.specs.Aes.{block_of, expand_key, encrypt_with};
 ghost use Rattle.cipher.specs.Columns.{columns_state};
-ghost use Rattle.cipher.specs.Cmac.{cmac_over};
-ghost use Rattle.cipher.specs.Kdf.{enc_prefix, auth_prefix, salt, labelled, kdf, derived_key};
-ghost use Rattle.cipher.specs.Device.{prepared, bare, CanDerive};
+ghost use Rattle.cipher.specs.Kdf.{enc_prefix, auth_prefix, kdf, derived_key};
+ghost use Rattle.cipher.specs.Device.{prepared, bare, IsPrepared};
 
 use crate::aes::Columns;
-use crate::{aes, cmac, tables};
+use crate::tables::Tables;
+use crate::{aes, cmac};
 use buffers::{numbers, parts};
 
 // The prefixes of the two keys that each name has.
@@ -22,22 +20,34 @@ const AUTH: [u8; 4] = *b"AUTH";
 pub fn kdf_counter_cmac(key: [u8; 16], first: &[u8], second: &[u8]) -> [u8; 16]
     ensures { result ≡ kdf key (first.now ++ second.now) }
 {
-    let t = tables::mix_table();
-    let sub = tables::sbox_table();
+    let tables = Tables::new();
     let mut keys = [0u32; 44];
-    aes::expand_into(&sub, &key, &mut keys);
+    aes::expand_into(&tables, &key, &mut keys);
     let counter = [1u8];
     let length = [0u8, 0, 0, 0, 0x80];
-    let start = cmac::absorb(&t, &keys, cmac::none_pending(), &counter);
-    let label = cmac::absorb(&t, &keys, cmac::absorb(&t, &keys, start, first), second);
-    let end = cmac::absorb(&t, &keys, label, &length);
-    cmac::close(&t, &keys, cmac::zero_block(&t, &keys), end)
+    let start = cmac::absorb(&tables, &keys, cmac::none_pending(), &counter);
+    let label = cmac::absorb(
+        &tables,
+        &keys,
+        cmac::absorb(&tables, &keys, start, first),
+        second,
+    );
+    let end = cmac::absorb(&tables, &keys, label, &length);
+    cmac::close(&tables, &keys, cmac::zero_block(&tables, &keys), end)
 }
 
-// The key for a prefix and a name, which together are cut to 32 bytes: the CMAC of a message of at most 38 bytes under an expanded key.
-fn derive(t: &[u32; 256], keys: &[u32; 44], zero: Columns, prefix: &[u8], name: &[u8]) -> [u8; 16]
-    requires { (t.now ≡ mix_table) × (block_of (columns_state zero) ≡ encrypt_with keys.now (replicate 16 0)) }
-    ensures { result ≡ cmac_over (encrypt_with keys.now) (labelled (salt prefix.now name.now)) }
+// The key for a prefix and a name, which together are cut to 32 bytes: the CMAC of a message of at most 38 bytes under the expanded key.
+fn derive(
+    tables: &Tables,
+    key: [u8; 16],
+    keys: &[u32; 44],
+    zero: Columns,
+    prefix: &[u8],
+    name: &[u8],
+) -> [u8; 16]
+    requires expanded { keys.now ≡ expand_key key }
+    requires encrypted { block_of (columns_state zero) ≡ encrypt_with keys.now (replicate 16 0) }
+    ensures { result ≡ derived_key key prefix.now name.now }
 {
     let p = numbers::least(prefix.len(), 32);
     let n = numbers::least(name.len(), 32 - p);
@@ -47,18 +57,18 @@ fn derive(t: &[u32; 256], keys: &[u32; 44], zero: Columns, prefix: &[u8], name: 
     parts::paste(&mut message, p + 1, &name[..n]);
     message[p + n + 5] = 0x80;
     let end = p + n + 6;
-    cmac::tag_of(t, keys, zero, &message[..end])
+    cmac::tag_of(tables, keys, zero, &message[..end])
 }
 
 // The key derived from the device key for a prefix and a name.
 pub fn derive_key(device_key: [u8; 16], prefix: &[u8], name: &[u8]) -> [u8; 16]
     ensures { result ≡ derived_key device_key prefix.now name.now }
 {
-    let t = tables::mix_table();
-    let sub = tables::sbox_table();
+    let tables = Tables::new();
     let mut keys = [0u32; 44];
-    aes::expand_into(&sub, &device_key, &mut keys);
-    derive(&t, &keys, cmac::zero_block(&t, &keys), prefix, name)
+    aes::expand_into(&tables, &device_key, &mut keys);
+    let zero = cmac::zero_block(&tables, &keys);
+    derive(&tables, device_key, &keys, zero, prefix, name)
 }
 
 // The device key with what each derivation takes of it: its expansion, and the zero block encrypted under it.
@@ -69,23 +79,21 @@ pub struct DeviceKey {
     pub zero: [u8; 16],
 }
 
-pub fn prepare(mix: &[u32; 256], sub: &[u8; 256], key: [u8; 16]) -> DeviceKey
-    requires { (mix.now ≡ mix_table) × (sub.now ≡ sbox) }
+pub fn prepare(tables: &Tables, key: [u8; 16]) -> DeviceKey
     ensures { result ≡ prepared key }
 {
     let mut keys = [0u32; 44];
-    aes::expand_into(sub, &key, &mut keys);
-    let zero = aes::store(cmac::zero_block(mix, &keys));
+    aes::expand_into(tables, &key, &mut keys);
+    let zero = aes::store(cmac::zero_block(tables, &keys));
     DeviceKey { key, keys, zero }
 }
 
 // The device key, prepared where keys are to be derived; there is nothing to lend where none is.
-pub fn prepare_if(wanted: bool, mix: &[u32; 256], sub: &[u8; 256], key: [u8; 16]) -> DeviceKey
-    requires { (mix.now ≡ mix_table) × (sub.now ≡ sbox) }
+pub fn prepare_if(wanted: bool, tables: &Tables, key: [u8; 16]) -> DeviceKey
     ensures { result ≡ (if wanted then prepared key else bare key) }
 {
     if wanted {
-        return prepare(mix, sub, key);
+        return prepare(tables, key);
     }
     DeviceKey {
         key,
@@ -94,44 +102,33 @@ pub fn prepare_if(wanted: bool, mix: &[u32; 256], sub: &[u8; 256], key: [u8; 16]
     }
 }
 
-// A key derived from a device key's parts.
-fn derive_from(
-    t: &[u32; 256],
-    key: [u8; 16],
-    keys: &[u32; 44],
-    zero: [u8; 16],
-    prefix: &[u8],
-    name: &[u8],
-) -> [u8; 16]
-    requires { (t.now ≡ mix_table) × (keys.now ≡ expand_key key) × (zero ≡ encrypt_with keys.now (replicate 16 0)) }
-    ensures { result ≡ derived_key key prefix.now name.now }
-{
-    derive(t, keys, aes::load(&zero), prefix, name)
-}
-
 // A key derived from the device key, which was prepared.
-fn derive_prepared(mix: &[u32; 256], device: DeviceKey, prefix: &[u8], name: &[u8]) -> [u8; 16]
-    requires { CanDerive mix.now device }
-    ensures { result ≡ derived_key device.key prefix.now name.now }
+fn derive_prepared(tables: &Tables, device: &DeviceKey, prefix: &[u8], name: &[u8]) -> [u8; 16]
+    requires { IsPrepared device.now }
+    ensures { result ≡ derived_key device.now.key prefix.now name.now }
 {
-    let key = device.key;
-    let keys = device.keys;
-    let zero = device.zero;
-    derive_from(mix, key, &keys, zero, prefix, name)
+    derive(
+        tables,
+        device.key,
+        &device.keys,
+        aes::load(&device.zero),
+        prefix,
+        name,
+    )
 }
 
 // The key that a name's data is encrypted under.
-pub fn derive_encryption_key(mix: &[u32; 256], device: DeviceKey, name: &[u8]) -> [u8; 16]
-    requires { CanDerive mix.now device }
-    ensures { result ≡ derived_key device.key enc_prefix name.now }
+pub fn derive_encryption_key(tables: &Tables, device: &DeviceKey, name: &[u8]) -> [u8; 16]
+    requires { IsPrepared device.now }
+    ensures { result ≡ derived_key device.now.key enc_prefix name.now }
 {
-    derive_prepared(mix, device, &ENC, name)
+    derive_prepared(tables, device, &ENC, name)
 }
 
 // The key that a name's record is authenticated under.
-pub fn derive_authentication_key(mix: &[u32; 256], device: DeviceKey, name: &[u8]) -> [u8; 16]
-    requires { CanDerive mix.now device }
-    ensures { result ≡ derived_key device.key auth_prefix name.now }
+pub fn derive_authentication_key(tables: &Tables, device: &DeviceKey, name: &[u8]) -> [u8; 16]
+    requires { IsPrepared device.now }
+    ensures { result ≡ derived_key device.now.key auth_prefix name.now }
 {
-    derive_prepared(mix, device, &AUTH, name)
+    derive_prepared(tables, device, &AUTH, name)
 }

@@ -59,7 +59,7 @@ const MIX: [u32; 256] = [
     0x824141c3, 0x299999b0, 0x5a2d2d77, 0x1e0f0f11, 0x7bb0b0cb, 0xa85454fc, 0x6dbbbbd6, 0x2c16163a,
 ];
 
-// A constant is copied wherever it is named: an operation takes each table once and lends it on.
+// A constant is copied wherever it is named, so these serve `Tables::new` alone.
 pub fn sbox_table() -> [u8; 256]
     ensures { result ≡ sbox }
 {
@@ -70,4 +70,23 @@ pub fn mix_table() -> [u32; 256]
     ensures { result ≡ mix_table }
 {
     MIX
+}
+
+// The tables of AES, which an operation takes once and lends on.
+#[derive(Drop)]
+pub struct Tables {
+    pub mix: [u32; 256],
+    pub sub: [u8; 256],
+    pub ghost right: { (mix ≡ mix_table) × (sub ≡ sbox) },
+}
+
+impl Tables {
+    pub fn new() -> Self
+        ensures { (result.mix ≡ mix_table) × (result.sub ≡ sbox) }
+    {
+        Tables {
+            mix: mix_table(),
+            sub: sbox_table(),
+        }
+    }
 }

@@ -5,4 +5,4 @@ use Rattle.cipher.proofs.aes.mix_entry.Goals as goal
 
 pub returns : goal.returns
 returns c =
-    let b = c.args.b in rw (c.requires.0, mix-at b c.requires.1) (number-entry (sub_byte b) (sub-lt b))
+    let b = c.args.b in rw (c.args.tables.now.right.0, mix-at b c.requires) (number-entry (sub_byte b) (sub-lt b))

@@ -9,5 +9,5 @@ pub returns : goal.returns
 unfolding columns_state
 returns c =
     let k = c.args.k in
-    let constant = ap number_word c.requires.1 ∙ number-constant c.args.i in
+    let constant = ap number_word c.requires ∙ number-constant c.args.i in
     next-numbers _ k.c0 k.c1 k.c2 k.c3 _ _ _ c.rotate_right_24.ensures c.sub_word.ensures constant

@@ -8,8 +8,8 @@ use Rattle.cipher.proofs.aes.substitute.Goals as goal
 pub overflow_cast-result-2 : goal.overflow_cast-result-2
 overflow_cast-result-2 c =
     let b = c.args.b in
-    let at : get_or c.args.s.now b 0 ≡ sub_byte b = rw c.requires.0 (sbox-at b c.requires.1) in
+    let at : get_or c.args.tables.now.sub b 0 ≡ sub_byte b = rw c.args.tables.now.right.1 (sbox-at b c.requires) in
     omega (arith, at, sub-lt b)
 
 pub returns : goal.returns
-returns c = rw c.requires.0 (sbox-at c.args.b c.requires.1)
+returns c = rw c.args.tables.now.right.1 (sbox-at c.args.b c.requires)

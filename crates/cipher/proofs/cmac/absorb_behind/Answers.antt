@@ -20,5 +20,5 @@ returns c =
     let full = ap block_of (c.encrypt_words-next.ensures ∙ ap (cipher (kept_key ks)) c.load-full.ensures) in
     let kept = c.add_bytes.ensures ∙ ap (xor_from _ 0) (to_end e d) in
     ap (λ (l : List ℕ). state c.add_bytes.result (length l) ks) (to_end e d)
-    ∙ absorbed_blocks ks c.args.block d _ _ _ e c.requires.1 full c.before_last-end.ensures
+    ∙ absorbed_blocks ks c.args.block d _ _ _ e c.requires full c.before_last-end.ensures
     (c.store.ensures ∙ c.chain_blocks-chained.ensures) kept

@@ -12,5 +12,5 @@ unfolding finished state_with subkey1 subkey2 columns_state words_state
 returns c =
     let last =
     c.close_block-x.ensures
-    ∙ ap₂ (λ (p : ℕ) (z : List ℕ). closed_block c.args.from.block p (double z) (double (double z))) c.least.ensures c.requires.1 in
+    ∙ ap₂ (λ (p : ℕ) (z : List ℕ). closed_block c.args.from.block p (double z) (double (double z))) c.least.ensures c.requires in
     c.store.ensures ∙ encrypted c.args.keys.now _ _ _ c.encrypt_words.ensures last

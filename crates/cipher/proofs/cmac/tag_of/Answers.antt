@@ -26,4 +26,4 @@ returns c =
     let last =
     c.last_block.ensures ∙ ap (λ (l : List ℕ). closed_block (xor_from zeros 0 l) (length l) (double z) (double (double z))) (to_end e m) in
     c.store.ensures ∙ encrypted ks _ _ _ c.encrypt_words.ensures whole
-    ∙ tag-shape ks m _ _ z e c.before_last-end.ensures c.requires.1 c.chain_blocks-chained.ensures last
+    ∙ tag-shape ks m _ _ z e c.before_last-end.ensures c.requires c.chain_blocks-chained.ensures last

@@ -17,4 +17,4 @@ returns c =
     let e₁ : state_with c.absorb-start.result _ ≡ fed (keyed key) a = c.absorb-start.ensures ∙ ap (λ (s : CmacState). fed s a) e₀ in
     let e₂ : state_with c.absorb-end.result _ ≡ fed (fed (keyed key) a) b = c.absorb-end.ensures ∙ ap (λ (s : CmacState). fed s b) e₁ in
     c.close.ensures ∙ ap (λ (s : CmacState). (finished s).block) e₂
-    ∙ sym (one-shot-law.parts key (array_fits w8 16 key _ c.well_formed.1.1.0) a b)
+    ∙ sym (one-shot-law.parts key (array_fits w8 16 key _ c.well_formed.1.0) a b)

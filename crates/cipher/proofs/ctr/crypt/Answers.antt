@@ -9,5 +9,5 @@ pub returns : goal.returns
 unfolding ctr ctr_at
 returns c =
     let a = c.args in
-    let same = same-cipher a.key _ (array_fits w8 16 a.key _ c.well_formed.1.1.0) c.expand_into.ensures in
+    let same = same-cipher a.key _ (array_fits w8 16 a.key _ c.well_formed.1.0) c.expand_into.ensures in
     c.crypt_blocks.ensures ∙ ap (λ (f : List ℕ → List ℕ). ctr_from f a.iv 0 0 a.buf.now) same

@@ -12,7 +12,7 @@ pub slice_bounds-crypt_whole-end-2 : goal.slice_bounds-crypt_whole-end-2
 slice_bounds-crypt_whole-end-2 c = simp length-take (omega arith)
 
 pub crypt_whole-requires : goal.crypt_whole-requires
-crypt_whole-requires c = (c.requires, simp length-take (omega arith))
+crypt_whole-requires c = simp length-take (omega arith)
 
 pub returns-then-end-n : goal.returns-then-end-n
 unfolding columns_state words_state encrypt_with

@@ -20,4 +20,4 @@ returns c =
     let sized = good_length (e_int w8) 8 a.iv _ c.well_formed.1.1.0 in
     let next : _ ≡ (a.count + 1) % 2 ^ 64 = c.wrapping_add_u64-next.ensures.value in
     let same = same-high a.count _ c.ranges.count.fits next (omega arith) in
-    c.requires.1 ∙ shared-next (kept_key a.keys.now) a.iv a.count _ sized (same ∙ ap (λ (k : ℕ). k / 2 ^ 32) next)
+    c.requires ∙ shared-next (kept_key a.keys.now) a.iv a.count _ sized (same ∙ ap (λ (k : ℕ). k / 2 ^ 32) next)

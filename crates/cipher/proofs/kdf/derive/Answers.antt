@@ -1,8 +1,10 @@
 -- `cipher::kdf::derive`: the two parts, each cut, are the salt, and the buffer is the message.
-use Rattle.std.proofs.Common.{◌≡◌, length, take, ap, ◌∙◌, arith, length-set, length-take}
+use Rattle.std.proofs.Common.{◌≡◌, length, take, ap, ◌∙◌, arith, length-set, length-take, w8}
+use Rattle.cipher.proofs.Arrays.{array_fits}
+use Rattle.cipher.proofs.Feeding.{under-key}
 use Rattle.cipher.specs.Aes.{encrypt_with}
 use Rattle.cipher.specs.Cmac.{cmac_over}
-use Rattle.cipher.specs.Kdf.{salt, labelled}
+use Rattle.cipher.specs.Kdf.{salt, labelled, kdf, derived_key}
 use Rattle.cipher.proofs.Salt.{cut_parts}
 use Rattle.cipher.proofs.Message.{message_is}
 use Rattle.cipher.proofs.kdf.derive.Goals as goal
@@ -28,7 +30,7 @@ slice_bounds-tag_of-end c =
     simp (length-take, length-set) (omega (arith, c.least-n.ensures, c.least-p.ensures))
 
 pub returns : goal.returns
-unfolding salt
+unfolding salt derived_key kdf
 returns c =
     let prefix = c.args.prefix.now in
     let name = c.args.name.now in
@@ -36,7 +38,9 @@ returns c =
     let n = c.least-n.result in
     let sp : length (take p prefix) ≡ p = length-take p prefix ∙ omega arith in
     let sn : length (take n name) ≡ n = length-take n name ∙ omega arith in
+    let key = c.args.key in
     c.tag_of.ensures
     ∙ ap (cmac_over (encrypt_with c.args.keys.now))
     (message_is (take p prefix) (take n name) p n sp sn (omega arith) _ _ c.paste.ensures c.paste-2.ensures
     ∙ ap labelled (cut_parts 32 p n prefix name c.least-p.ensures c.least-n.ensures))
+    ∙ under-key key _ _ (array_fits w8 16 key _ c.well_formed.1.0) c.requires.expanded

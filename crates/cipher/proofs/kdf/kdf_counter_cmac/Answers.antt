@@ -7,18 +7,6 @@ use Rattle.cipher.proofs.Arrays.{array_fits}
 use Rattle.cipher.proofs.Tag.{one-shot-law}
 use Rattle.cipher.proofs.kdf.kdf_counter_cmac.Goals as goal
 
-pub absorb-end-requires : goal.absorb-end-requires
-absorb-end-requires c =
-    c.mix_table-t.ensures
-
-pub zero_block-requires : goal.zero_block-requires
-zero_block-requires c =
-    c.mix_table-t.ensures
-
-pub close-requires : goal.close-requires
-close-requires c =
-    (c.mix_table-t.ensures, c.zero_block.ensures)
-
 pub returns : goal.returns
 unfolding begun keyed state_with none_pending
 returns c =
