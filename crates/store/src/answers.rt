@@ -1,20 +1,12 @@
-// What the calls return. A refusal has 0 for every number but its status.
-#[derive(Clone, Copy)]
-pub struct Got {
-    pub status: u32,
-    pub count: usize,
-}
-
-#[derive(Clone, Copy)]
+// What the calls hand out besides their number.
+#[derive(Clone, Copy, Debug, PartialEq, Eq)]
 pub struct Info {
-    pub status: u32,
     pub data_size: u32,
     pub flags: u32,
 }
 
-#[derive(Clone, Copy)]
+#[derive(Clone, Copy, Debug, PartialEq, Eq)]
 pub struct Iterated {
-    pub status: u32,
     pub name_len: usize,
     pub next_slot: usize,
 }

@@ -11,10 +11,12 @@ ghost use Rattle.spec.specs.Demand2.{Undamaged};
 ghost use Rattle.spec.specs.Area.{kv_format};
 ghost use Rattle.slots.specs.Found.{payload_at};
 ghost use Rattle.records.specs.Parts.{ReadyFor};
+ghost use Rattle.store.specs.Answers.{status_of, value_or, count_of, no_info};
 ghost use Rattle.store.specs.Parts.{get_early, given, authentic, fresh, offset_tests, keyless_tests, keyed_tests, judged, looked_up, got_of};
 
-use crate::answers::{Got, Info};
+use crate::answers::Info;
 use crate::judge::Judged;
+use crate::status::Refusal;
 use crate::{guard, judge, status};
 use buffers::parts;
 use cipher::kdf::DeviceKey;
@@ -214,17 +216,17 @@ fn get_record(
     tag_held: bool,
     tag: &[u8],
     output: &mut [u8],
-) -> Got
+) -> Result<usize, Refusal>
     requires tag_len { (tag_held ≡ true → length tag.now ≡ 16) × (well_formed stored.now ≡ true) }
     requires ready_for { ReadyFor (flags_of stored.now) mix.now sub.now device }
-    ensures { record { status = result.status; numbers = result.count ∷ []; output = output.new } ≡ got_of device.key name.now offset stored.now (given tag_held tag.now) output.old }
+    ensures { record { status = status_of result; numbers = count_of result ∷ []; output = output.new } ≡ got_of device.key name.now offset stored.now (given tag_held tag.now) output.old }
 {
     let status = held_status(mix, sub, device, name, offset, stored, tag_held, tag);
     if status != status::OK {
-        return Got { status, count: 0 };
+        return Err(Refusal::Other(status));
     }
     let count = read_record(mix, sub, device, name, stored, offset, output);
-    Got { status, count }
+    Ok(count)
 }
 
 // A get of a name that was looked up, its record well formed.
@@ -239,11 +241,11 @@ fn get_found(
     found: Found,
     entry: Found,
     output: &mut [u8],
-) -> Got
+) -> Result<usize, Refusal>
     requires name_value { first_of (get_early kv.now rbp.now device.key name.now) ≡ ok }
     requires value { record { status = ok; found = found; entry = entry } ≡ looked_up kv.now rbp.now name.now }
     requires ready_for { ReadyFor (flags_of (payload_at kv_format kv.now found)) mix.now sub.now device }
-    ensures { record { status = result.status; numbers = result.count ∷ []; output = output.new } ≡ (store_get kv.now rbp.now device.key name.now offset output.old).answer }
+    ensures { record { status = status_of result; numbers = count_of result ∷ []; output = output.new } ≡ (store_get kv.now rbp.now device.key name.now offset output.old).answer }
 {
     let stored = areas::payload_at(AreaKind::Kv, kv, found);
     let tag = areas::payload_at(AreaKind::Rbp, rbp, entry);
@@ -262,17 +264,14 @@ pub fn get_prepared(
     name: &[u8],
     offset: usize,
     output: &mut [u8],
-) -> Got
+) -> Result<usize, Refusal>
     requires name_value { first_of (get_early kv.now rbp.now device.key name.now) ≡ ok }
     requires ready { Ready mix.now sub.now device }
-    ensures { record { status = result.status; numbers = result.count ∷ []; output = output.new } ≡ (store_get kv.now rbp.now device.key name.now offset output.old).answer }
+    ensures { record { status = status_of result; numbers = count_of result ∷ []; output = output.new } ≡ (store_get kv.now rbp.now device.key name.now offset output.old).answer }
 {
     let seen = look_up(kv, rbp, name);
     if seen.status != status::OK {
-        return Got {
-            status: seen.status,
-            count: 0,
-        };
+        return Err(Refusal::Other(seen.status));
     }
     get_found(
         mix, sub, device, kv, rbp, name, offset, seen.found, seen.entry, output,
@@ -287,16 +286,13 @@ fn get_held(
     name: &[u8],
     offset: usize,
     output: &mut [u8],
-) -> Got
+) -> Result<usize, Refusal>
     requires { first_of (get_early kv.now rbp.now device_key.now name.now) ≡ ok }
-    ensures { record { status = result.status; numbers = result.count ∷ []; output = output.new } ≡ (store_get kv.now rbp.now device_key.now name.now offset output.old).answer }
+    ensures { record { status = status_of result; numbers = count_of result ∷ []; output = output.new } ≡ (store_get kv.now rbp.now device_key.now name.now offset output.old).answer }
 {
     let seen = look_up(kv, rbp, name);
     if seen.status != status::OK {
-        return Got {
-            status: seen.status,
-            count: 0,
-        };
+        return Err(Refusal::Other(seen.status));
     }
     let found = seen.found;
     let stored = areas::payload_at(AreaKind::Kv, kv, found);
@@ -315,34 +311,26 @@ pub fn get(
     name: &[u8],
     offset: usize,
     output: &mut [u8],
-) -> Got
-    ensures { record { status = result.status; numbers = result.count ∷ []; output = output.new } ≡ (store_get kv.now rbp.now device_key.now name.now offset output.old).answer }
+) -> Result<usize, Refusal>
+    ensures { record { status = status_of result; numbers = count_of result ∷ []; output = output.new } ≡ (store_get kv.now rbp.now device_key.now name.now offset output.old).answer }
 {
     let early = early_status(kv, rbp, device_key, name);
     if early != status::OK {
-        return Got {
-            status: early,
-            count: 0,
-        };
+        return Err(Refusal::Other(early));
     }
     get_held(kv, rbp, device_key, name, offset, output)
 }
 
-pub fn get_info(kv: &[u8], rbp: &[u8], device_key: &[u8], name: &[u8]) -> Info
-    ensures { record { status = result.status; numbers = result.data_size ∷ result.flags ∷ []; output = [] } ≡ (store_get_info kv.now rbp.now device_key.now name.now).answer }
+pub fn get_info(kv: &[u8], rbp: &[u8], device_key: &[u8], name: &[u8]) -> Result<Info, Refusal>
+    ensures { record { status = status_of result; numbers = (value_or no_info result).data_size ∷ (value_or no_info result).flags ∷ []; output = [] } ≡ (store_get_info kv.now rbp.now device_key.now name.now).answer }
 {
     let judged = judge(kv, rbp, device_key, name, 0);
     if judged.status != status::OK {
-        return Info {
-            status: judged.status,
-            data_size: 0,
-            flags: 0,
-        };
+        return Err(Refusal::Other(judged.status));
     }
     let stored = areas::payload_at(AreaKind::Kv, kv, judged.found);
-    Info {
-        status: status::OK,
+    Ok(Info {
         data_size: record::record_data_size(stored),
         flags: record::record_flags(stored),
-    }
+    })
 }

@@ -3,19 +3,14 @@ ghost use Rattle.std.specs.Prelude.{◌≡◌, [], ◌+◌, ◌≤◌};
 ghost use Rattle.spec.specs.Status.{first_of};
 ghost use Rattle.spec.specs.Incremental.{handle_tests, zero_handle, start_tests, new_handle, set_start, add_tests, advanced, set_add_data, store_set_finalize};
 ghost use Rattle.spec.specs.IncrementalExact.{Startable};
+ghost use Rattle.store.specs.Answers.{status_of, value_or};
 ghost use Rattle.store.specs.Parts.{finalize_early};
 
+use crate::status::Refusal;
 use crate::{guard, set, status};
 use buffers::parts;
 use slots::{AreaKind, areas};
 use spec::incremental::IncSetHandle;
-
-// A call's status, and the handle for the next one.
-#[derive(Clone, Copy)]
-pub struct SetProgress {
-    pub status: u32,
-    pub handle: IncSetHandle,
-}
 
 // 1, 3, 5.
 fn start_status(name: &[u8], iv: &[u8], final_data_size: usize) -> u32
@@ -33,7 +28,7 @@ fn start_status(name: &[u8], iv: &[u8], final_data_size: usize) -> u32
     status::OK
 }
 
-fn zero_handle() -> IncSetHandle
+pub fn zero_handle() -> IncSetHandle
     ensures { result ≡ zero_handle }
 {
     IncSetHandle {
@@ -63,20 +58,19 @@ fn new_handle(name: &[u8], flags: u32, iv: &[u8], final_data_size: usize) -> Inc
 }
 
 // A refusal gives a handle of zeros, which a later call takes for an empty name.
-pub fn set_start(name: &[u8], flags: u32, iv: &[u8], final_data_size: usize) -> SetProgress
-    ensures { record { answer = record { status = result.status; numbers = []; output = [] }; after = result.handle } ≡ set_start name.now flags iv.now final_data_size }
+pub fn set_start(
+    name: &[u8],
+    flags: u32,
+    iv: &[u8],
+    final_data_size: usize,
+) -> Result<IncSetHandle, Refusal>
+    ensures { record { answer = record { status = status_of result; numbers = []; output = [] }; after = value_or zero_handle result } ≡ set_start name.now flags iv.now final_data_size }
 {
     let status = start_status(name, iv, final_data_size);
     if status != status::OK {
-        return SetProgress {
-            status,
-            handle: zero_handle(),
-        };
+        return Err(Refusal::Other(status));
     }
-    SetProgress {
-        status: status::OK,
-        handle: new_handle(name, flags, iv, final_data_size),
-    }
+    Ok(new_handle(name, flags, iv, final_data_size))
 }
 
 // 19 for a handle that no call leaves.
@@ -130,18 +124,21 @@ fn advance(handle: IncSetHandle, n: u32) -> IncSetHandle
     }
 }
 
-pub fn set_add_data(handle: IncSetHandle, staging: &mut [u8], chunk: &[u8]) -> SetProgress
-    ensures { record { answer = record { status = result.status; numbers = []; output = [] }; after = record { handle = result.handle; staging = staging.new } } ≡ set_add_data handle staging.old chunk.now }
+pub fn set_add_data(
+    handle: &mut IncSetHandle,
+    staging: &mut [u8],
+    chunk: &[u8],
+) -> Result<(), Refusal>
+    ensures { record { answer = record { status = status_of result; numbers = []; output = [] }; after = record { handle = handle.new; staging = staging.new } } ≡ set_add_data handle.old staging.old chunk.now }
 {
-    let status = add_status(handle, staging, chunk);
+    let held = *handle;
+    let status = add_status(held, staging, chunk);
     if status != status::OK {
-        return SetProgress { status, handle };
+        return Err(Refusal::Other(status));
     }
-    parts::paste(staging, handle.offset as usize, chunk);
-    SetProgress {
-        status: status::OK,
-        handle: advance(handle, chunk.len() as u32),
-    }
+    parts::paste(staging, held.offset as usize, chunk);
+    *handle = advance(held, chunk.len() as u32);
+    Ok(())
 }
 
 // 1 and 19: what a finalize asks before it is a set.
@@ -179,14 +176,14 @@ pub fn set_finalize(
     device_key: &[u8],
     handle: IncSetHandle,
     staging: &[u8],
-) -> u32
-    ensures { record { answer = record { status = result; numbers = []; output = [] }; after = record { kv = kv.new; rbp = rbp.new } } ≡ store_set_finalize kv.old rbp.old device_key.now handle staging.now }
+) -> Result<(), Refusal>
+    ensures { record { answer = record { status = status_of result; numbers = []; output = [] }; after = record { kv = kv.new; rbp = rbp.new } } ≡ store_set_finalize kv.old rbp.old device_key.now handle staging.now }
 {
     let name = handle.name;
     let iv = handle.iv;
     let status = finalize_status(kv, rbp, device_key, handle, staging);
     if status != status::OK {
-        return status;
+        return Err(Refusal::Other(status));
     }
     let name_len = handle.name_len as usize;
     let held = handle.offset as usize;

@@ -2,9 +2,11 @@
 ghost use Rattle.std.specs.Prelude.{◌≡◌, [], ◌∷◌};
 ghost use Rattle.spec.specs.Calls as Calls;
 ghost use Rattle.spec.specs.Status.{first_of};
+ghost use Rattle.store.specs.Answers.{status_of, value_or, no_name};
 ghost use Rattle.store.specs.Parts.{iterator_early};
 
 use crate::answers::Iterated;
+use crate::status::Refusal;
 use crate::{guard, status};
 use buffers::parts;
 use slots::{AreaKind, areas, names};
@@ -23,38 +25,27 @@ fn early_status(kv: &[u8], rbp: &[u8], prefix: &[u8], name_buf: &[u8]) -> u32
     status::OK
 }
 
-fn refused(status: u32) -> Iterated
-    ensures { result ≡ record { status = status; name_len = 0; next_slot = 0 } }
-{
-    Iterated {
-        status,
-        name_len: 0,
-        next_slot: 0,
-    }
-}
-
 pub fn iterator_next(
     kv: &[u8],
     rbp: &[u8],
     prefix: &[u8],
     start_slot: usize,
     name_buf: &mut [u8],
-) -> Iterated
-    ensures { record { status = result.status; numbers = result.name_len ∷ result.next_slot ∷ []; output = name_buf.new } ≡ (Calls.store_iterator_next kv.now rbp.now prefix.now start_slot name_buf.old).answer }
+) -> Result<Iterated, Refusal>
+    ensures { record { status = status_of result; numbers = (value_or no_name result).name_len ∷ (value_or no_name result).next_slot ∷ []; output = name_buf.new } ≡ (Calls.store_iterator_next kv.now rbp.now prefix.now start_slot name_buf.old).answer }
 {
     let early = early_status(kv, rbp, prefix, name_buf);
     if early != status::OK {
-        return refused(early);
+        return Err(Refusal::Other(early));
     }
     let at = areas::next_match(kv, prefix, start_slot);
     if areas::slot_count(AreaKind::Kv, kv) <= at {
-        return refused(status::ERR_NOT_FOUND);
+        return Err(Refusal::NotFound);
     }
     let name = areas::name_at(AreaKind::Kv, kv, at);
     parts::paste(name_buf, 0, name);
-    Iterated {
-        status: status::OK,
+    Ok(Iterated {
         name_len: name.len(),
         next_slot: at + 1,
-    }
+    })
 }

@@ -6,9 +6,11 @@ ghost use Rattle.spec.specs.Decisions.{remove_held};
 ghost use Rattle.spec.specs.Calls.{store_remove};
 ghost use Rattle.spec.specs.Demand2.{Undamaged};
 ghost use Rattle.slots.specs.Found.{CanRead};
+ghost use Rattle.store.specs.Answers.{status_of};
 ghost use Rattle.store.specs.Parts.{remove_early, given, judged, record_erased};
 
 use crate::judge::Judged;
+use crate::status::Refusal;
 use crate::{guard, judge, status};
 use records::{flags as flag, record};
 use slots::areas::Found;
@@ -73,14 +75,14 @@ pub fn judge(kv: &[u8], rbp: &[u8], name: &[u8]) -> Judged
     }
 }
 
-pub fn remove(kv: &mut [u8], rbp: &mut [u8], name: &[u8]) -> u32
-    ensures { record { answer = record { status = result; numbers = []; output = [] }; after = record { kv = kv.new; rbp = rbp.new } } ≡ store_remove kv.old rbp.old name.now }
+pub fn remove(kv: &mut [u8], rbp: &mut [u8], name: &[u8]) -> Result<(), Refusal>
+    ensures { record { answer = record { status = status_of result; numbers = []; output = [] }; after = record { kv = kv.new; rbp = rbp.new } } ≡ store_remove kv.old rbp.old name.now }
 {
     let judged = judge(kv, rbp, name);
     if judged.status != status::OK {
-        return judged.status;
+        return Err(Refusal::Other(judged.status));
     }
     let flags = record::record_flags(areas::payload_at(AreaKind::Kv, kv, judged.found));
     erase_record(kv, rbp, judged.found, judged.entry, flags);
-    status::OK
+    Ok(())
 }

@@ -1,21 +1,22 @@
 // Reset: both areas are cleared, whatever they hold.
 ghost use Rattle.std.specs.Prelude.{◌≡◌, []};
 ghost use Rattle.spec.specs.Calls as Calls;
+ghost use Rattle.store.specs.Answers.{status_of};
 
-use crate::status;
+use crate::status::Refusal;
 use buffers::parts;
 use slots::{AreaKind, areas};
 
-pub fn reset(kv: &mut [u8], rbp: &mut [u8]) -> u32
-    ensures { record { answer = record { status = result; numbers = []; output = [] }; after = record { kv = kv.new; rbp = rbp.new } } ≡ Calls.store_reset kv.old rbp.old }
+pub fn reset(kv: &mut [u8], rbp: &mut [u8]) -> Result<(), Refusal>
+    ensures { record { answer = record { status = status_of result; numbers = []; output = [] }; after = record { kv = kv.new; rbp = rbp.new } } ≡ Calls.store_reset kv.old rbp.old }
 {
     if !areas::area_sized(AreaKind::Kv, kv) {
-        return status::ERR_LENGTH;
+        return Err(Refusal::Length);
     }
     if !areas::area_sized(AreaKind::Rbp, rbp) {
-        return status::ERR_LENGTH;
+        return Err(Refusal::Length);
     }
     parts::clear(kv);
     parts::clear(rbp);
-    status::OK
+    Ok(())
 }

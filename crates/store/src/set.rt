@@ -9,9 +9,11 @@ ghost use Rattle.spec.specs.Decisions.{set_held, space_tests};
 ghost use Rattle.spec.specs.Calls.{binding_of, room_of, store_set};
 ghost use Rattle.spec.specs.Demand2.{Undamaged};
 ghost use Rattle.slots.specs.Found.{CanInsert};
+ghost use Rattle.store.specs.Answers.{status_of};
 ghost use Rattle.store.specs.Parts.{set_arguments, set_early, binding_given, judged, record_written};
 
 use crate::judge::Judged;
+use crate::status::Refusal;
 use crate::{guard, judge, status};
 use buffers::parts;
 use cipher::{kdf, tables};
@@ -168,12 +170,12 @@ pub fn set(
     flags: u32,
     iv: &[u8],
     data: &[u8],
-) -> u32
-    ensures { record { answer = record { status = result; numbers = []; output = [] }; after = record { kv = kv.new; rbp = rbp.new } } ≡ store_set kv.old rbp.old device_key.now name.now flags iv.now «data».now }
+) -> Result<(), Refusal>
+    ensures { record { answer = record { status = status_of result; numbers = []; output = [] }; after = record { kv = kv.new; rbp = rbp.new } } ≡ store_set kv.old rbp.old device_key.now name.now flags iv.now «data».now }
 {
     let judged = judge(kv, rbp, device_key, name, flags, iv, data);
     if judged.status != status::OK {
-        return judged.status;
+        return Err(Refusal::Other(judged.status));
     }
     let key = parts::array16(device_key);
     let iv8 = parts::array8(iv);
@@ -188,5 +190,5 @@ pub fn set(
         iv8,
         data,
     );
-    status::OK
+    Ok(())
 }

@@ -1,4 +1,7 @@
 -- `store::get::get_record`: what is decided, then the record is read.
+use mathlib.Core.Path.{sym, ap, ◌∙◌}
+use mathlib.Core.List.{[], ◌∷◌}
+use Prim.Native.Nat.{ℕ}
 use Rattle.store.specs.Parts.{given}
 use Rattle.store.proofs.GetCall.{read-refused, read_in_range, read_done}
 use Rattle.store.proofs.get.get_record.Goals as goal
@@ -24,5 +27,6 @@ returns c =
     let held-status = c.held_status-status in
     let if1 = c.if-status-ne-OK in
     let args = c.args in
-    read_done args.device.key args.name.now args.offset args.stored.now (given args.tag_held args.tag.now)
+    ap (λ (s : ℕ). record { status = s; numbers = read-record.result ∷ []; output = read-record.new.output }) (sym if1.false)
+    ∙ read_done args.device.key args.name.now args.offset args.stored.now (given args.tag_held args.tag.now)
     args.output.now held-status.result held-status.ensures if1.false _ _ read-record.ensures.value read-record.ensures.output_after

@@ -8,14 +8,14 @@ returns-then-status-ne-OK c =
     let args = c.args in
     let add-status = c.add_status-status in
     let if1 = c.if-status-ne-OK in
-    add-refused args.handle args.staging.now args.chunk.now _ add-status.ensures if1.true
+    add-refused args.handle.now args.staging.now args.chunk.now _ add-status.ensures if1.true
 
 pub paste-requires : goal.paste-requires
 paste-requires c =
     let args = c.args in
     let add-status = c.add_status-status in
     let if1 = c.if-status-ne-OK in
-    let r = add-ready args.handle args.staging.now args.chunk.now _ add-status.ensures if1.false in
+    let r = add-ready args.handle.now args.staging.now args.chunk.now _ add-status.ensures if1.false in
     let s = r.staging_is_sized in
     let i = r.in_range in
     let z = r.size_small in
@@ -26,7 +26,7 @@ overflow_cast-chunk c =
     let args = c.args in
     let add-status = c.add_status-status in
     let if1 = c.if-status-ne-OK in
-    let r = add-ready args.handle args.staging.now args.chunk.now _ add-status.ensures if1.false in
+    let r = add-ready args.handle.now args.staging.now args.chunk.now _ add-status.ensures if1.false in
     let i = r.in_range in
     let z = r.size_small in
     omega arith
@@ -36,7 +36,7 @@ advance-requires c =
     let args = c.args in
     let add-status = c.add_status-status in
     let if1 = c.if-status-ne-OK in
-    let r = add-ready args.handle args.staging.now args.chunk.now _ add-status.ensures if1.false in
+    let r = add-ready args.handle.now args.staging.now args.chunk.now _ add-status.ensures if1.false in
     let i = r.in_range in
     let z = r.size_small in
     omega arith
@@ -48,4 +48,4 @@ returns c =
     let if1 = c.if-status-ne-OK in
     let paste = c.paste in
     let advance = c.advance in
-    add_done args.handle args.staging.now args.chunk.now _ add-status.ensures if1.false _ _ advance.ensures paste.ensures
+    add_done args.handle.now args.staging.now args.chunk.now _ add-status.ensures if1.false _ _ advance.ensures paste.ensures

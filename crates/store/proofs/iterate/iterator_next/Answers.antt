@@ -14,9 +14,6 @@ use Rattle.store.proofs.IteratorCall.{iterator_sane, iterator_stopped, iterator_
 use Rattle.store.proofs.IteratorCall.{shown-facts, iterated-refused, iterated-done}
 use Rattle.store.proofs.iterate.iterator_next.Goals as goal
 
-abbrev answer : Iterated → List ℕ → Answer
-answer r buf = record { status = r.status; numbers = r.name_len ∷ r.next_slot ∷ []; output = buf }
-
 pub paste-requires : goal.paste-requires
 paste-requires c =
     let args = c.args in
@@ -37,7 +34,7 @@ returns-then-early-ne-OK c =
     let buf = args.name_buf.now in
     let n = early-status.result in
     let e = iterator_stopped kv rbp p args.start_slot buf n early-status.ensures if1.true in
-    ap (λ (r : Iterated). answer r buf) c.refused.ensures ∙ iterated-refused kv rbp p args.start_slot buf n e if1.true
+    iterated-refused kv rbp p args.start_slot buf n e if1.true
 
 pub next_match-at-requires : goal.next_match-at-requires
 next_match-at-requires c =
@@ -60,7 +57,7 @@ returns-then-slot_count-at c =
     let buf = args.name_buf.now in
     let past = rw (slot-count.ensures, next-match.ensures) at if2.true in
     let e = iterator_past kv rbp p args.start_slot buf (sym early-status.ensures ∙ if1.false) past in
-    ap (λ (r : Iterated). answer r buf) c.refused-then-slot_count-at.ensures ∙ iterated-refused kv rbp p args.start_slot buf 6 e (λ z. absurd (omega arith))
+    iterated-refused kv rbp p args.start_slot buf 6 e (λ z. absurd (omega arith))
 
 pub name_at-name-requires : goal.name_at-name-requires
 name_at-name-requires c =
