@@ -1,3 +1,3 @@
-pub mod Keys
+pub mod Needs
 pub mod Valid
 pub mod Sealed

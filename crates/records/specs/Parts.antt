@@ -1,7 +1,7 @@
 -- Definitions of spec in the parts that the code computes.
 use Rattle.std.specs.Prelude.{◌≡◌, Bool, true, cond, ◌&&◌, ◌||◌, List, ◌++◌, ℕ, ◌+◌, eqb, leb, length}
 use Rattle.cipher.specs.declared.kdf.DeviceKey.{DeviceKey}
-use Rattle.cipher.specs.Device.{Ready}
+use Rattle.cipher.specs.Device.{IsPrepared}
 use Rattle.cipher.specs.Cmac.{cmac}
 use Rattle.buffers.specs.Bytes.{zeros, all_zero}
 use Rattle.spec.specs.Name.{Name}
@@ -11,9 +11,9 @@ use Rattle.spec.specs.Record.{require_confidentiality, require_integrity, valid_
 abbrev pub needs_keys : ℕ → Bool
 needs_keys flags = require_confidentiality flags || require_integrity flags
 
--- what is lent to whatever may derive keys: where no flag asks for one, anything will do
-abbrev pub ReadyFor : ℕ → List ℕ → List ℕ → DeviceKey → Type 0
-ReadyFor flags mix sub device = needs_keys flags ≡ true → Ready mix sub device
+-- the device key that is lent to whatever may derive keys: where no flag asks for one, any will do
+abbrev pub ReadyFor : ℕ → DeviceKey → Type 0
+ReadyFor flags device = needs_keys flags ≡ true → IsPrepared device
 
 -- `well_formed` in two halves: what the metadata says, and the zeros
 unfoldable pub fields_valid : List ℕ → Bool

@@ -2,6 +2,7 @@
 #![tactic(auto)]
 
 pub mod flags;
+pub mod keys;
 pub mod mac;
 pub mod open;
 pub mod record;

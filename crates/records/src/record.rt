@@ -71,5 +71,5 @@ pub(crate) fn record_tag(r: &[u8]) -> [u8; 16]
     ensures { result ≡ tag_of r.now }
 {
     let at = r.len() - 16;
-    parts::array16(&r[at..])
+    parts::array::<16>(&r[at..])
 }

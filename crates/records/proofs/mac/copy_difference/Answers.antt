@@ -6,5 +6,5 @@ use Rattle.records.proofs.mac.copy_difference.Goals as goal
 pub returns : goal.returns
 returns c =
     let record-tag = c.record_tag-stored in
-    let array16 = c.array16-kept in
-    c.tag_difference.ensures ∙ ap₂ diff_accumulate array16.ensures record-tag.ensures
+    let array = c.array-kept in
+    c.tag_difference.ensures ∙ ap₂ diff_accumulate array.ensures record-tag.ensures

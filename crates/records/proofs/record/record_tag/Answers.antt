@@ -9,10 +9,10 @@ use Rattle.records.proofs.record.record_tag.Goals as goal
 pub overflow_sub-at : goal.overflow_sub-at
 overflow_sub-at c = let valid = valid-record c.args.r.now c.requires in omega arith
 
-pub array16-requires : goal.array16-requires
-array16-requires c =
+pub array-requires : goal.array-requires
+array-requires c =
     let r = c.args.r.now in
-    ap length (rest_part r _) ∙ valid-tag-length r (valid-record r c.requires)
+    (omega arith, ap length (rest_part r _) ∙ valid-tag-length r (valid-record r c.requires))
 
 pub returns : goal.returns
-returns c = c.array16.ensures ∙ rest_part c.args.r.now _
+returns c = c.array.ensures ∙ rest_part c.args.r.now _

@@ -4,8 +4,6 @@ use mathlib.Core.Bool.{Bool, true, cond}
 use mathlib.Core.List.{List}
 use Prim.Native.Nat.{ℕ}
 use Rattle.cipher.specs.declared.kdf.DeviceKey.{DeviceKey}
-use Rattle.cipher.specs.Sbox.{sbox}
-use Rattle.cipher.specs.Tables.{mix_table}
 use Rattle.cipher.specs.Device.{prepared, bare}
 use Rattle.buffers.proofs.Split.{split}
 use Rattle.spec.specs.Record.{require_confidentiality, require_integrity}
@@ -23,7 +21,7 @@ module _ (wanted : Bool) (key : List ℕ) (d : DeviceKey) (e : d ≡ cond wanted
   unfolding prepared bare
   key-kept = ap (λ (x : DeviceKey). x.key) e ∙ split wanted (λ w. rw w) (λ w. rw w)
 
-  pub ready_for : (flags : ℕ) (mix sub : List ℕ) → mix ≡ mix_table → sub ≡ sbox → wanted ≡ needs_keys flags → ReadyFor flags mix sub d
-  ready_for flags mix sub m s w h =
+  pub ready_for : (flags : ℕ) → wanted ≡ needs_keys flags → ReadyFor flags d
+  ready_for flags w h =
       let own : d ≡ prepared key = e ∙ ap (λ (b : Bool). cond b (prepared key) (bare key)) (w ∙ h) in
-      (m, s, own ∙ ap prepared (sym key-kept))
+      own ∙ ap prepared (sym key-kept)

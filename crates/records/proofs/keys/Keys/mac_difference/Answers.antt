@@ -1,4 +1,4 @@
--- `records::mac::mac_difference`: metadata and stored data are all but the last sixteen bytes.
+-- `records::keys::Keys::mac_difference`: metadata and stored data are all but the last sixteen bytes.
 use mathlib.Core.Path.{sym, ap₂, ◌∙◌}
 use Prim.Native.Nat.{◌-◌}
 use native.Mathlib.Omega.{arith}
@@ -7,7 +7,7 @@ use lib.Seq.{length-take-le}
 use Rattle.buffers.specs.Compare.{diff_accumulate}
 use Rattle.spec.proofs.Record.{valid-record}
 use Rattle.records.proofs.Valid.{covered-cmac}
-use Rattle.records.proofs.mac.mac_difference.Goals as goal
+use Rattle.records.proofs.keys.Keys.mac_difference.Goals as goal
 
 pub overflow_sub-end : goal.overflow_sub-end
 overflow_sub-end c =
@@ -25,5 +25,5 @@ returns c =
     let record-cmac = c.record_cmac-computed in
     let args = c.args in
     let r = args.r.now in
-    let cmac = record-cmac.ensures ∙ covered-cmac args.device.key args.name.now r (valid-record r c.requires.r_value) in
+    let cmac = record-cmac.ensures ∙ covered-cmac args.self.now.device.now.key args.self.now.name.now r (valid-record r c.requires.r_value) in
     c.tag_difference.ensures ∙ ap₂ diff_accumulate cmac record-tag.ensures

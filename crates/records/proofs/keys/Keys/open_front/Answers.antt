@@ -1,12 +1,12 @@
--- `records::open::open_front`: the front of the stored data, which stand behind the metadata, becomes the front of the plaintext.
+-- `records::keys::Keys::open_front`: the front of the stored data, which stand behind the metadata, becomes the front of the plaintext.
 use native.Mathlib.Omega.{arith}
 use lib.ListN.{length-take, length-drop}
 use Rattle.spec.proofs.Record.{valid-record}
 use Rattle.records.proofs.Sealed.{opened-steps}
-use Rattle.records.proofs.open.open_front.Goals as goal
+use Rattle.records.proofs.keys.Keys.open_front.Goals as goal
 
-pub slice_bounds-array8-end : goal.slice_bounds-array8-end
-slice_bounds-array8-end c =
+pub slice_bounds-array-end : goal.slice_bounds-array-end
+slice_bounds-array-end c =
     let valid = valid-record c.args.r.now c.requires.r_value in
     omega arith
 
@@ -23,13 +23,13 @@ put_crypted-requires c =
 pub returns : goal.returns
 returns c =
     let put-crypted = c.put_crypted in
-    let array8 = c.array8-iv in
+    let array = c.array-iv in
     let record-flags = c.record_flags-flags in
     let fitting = c.fitting-n in
     let args = c.args in
     let r = args.r.now in
     let valid = valid-record r c.requires.r_value in record {
       value = fitting.ensures;
-      output_after = opened-steps args.device.key args.name.now r valid args.output.now _ _ _ fitting.result (omega arith)
-          record-flags.ensures array8.ensures put-crypted.ensures;
+      output_after = opened-steps args.self.now.device.now.key args.self.now.name.now r valid args.output.now _ _ _ fitting.result (omega arith)
+          record-flags.ensures array.ensures put-crypted.ensures;
     }

@@ -1,10 +1,10 @@
--- `records::open::open_record`: there is room for all data, and behind them the buffer has its zeros.
+-- `records::keys::Keys::open_record`: there is room for all data, and behind them the buffer has its zeros.
 use mathlib.Core.Path.{◌≡◌}
 use native.Mathlib.Omega.{arith}
 use Rattle.spec.specs.Record.{data_size_of}
 use Rattle.spec.proofs.Record.{valid-record}
 use Rattle.records.proofs.Sealed.{opened-filled}
-use Rattle.records.proofs.open.open_record.Goals as goal
+use Rattle.records.proofs.keys.Keys.open_record.Goals as goal
 
 pub open_front-requires : goal.open_front-requires
 open_front-requires c = c.requires
@@ -16,4 +16,4 @@ returns c =
     let r = args.r.now in
     let valid = valid-record r c.requires.r_value in
     let all : open-front.result ≡ data_size_of r = omega (arith, open-front.ensures.value) in
-    opened-filled args.device.key args.name.now r valid 480 _ open-front.result all open-front.ensures.output_after
+    opened-filled args.self.now.device.now.key args.self.now.name.now r valid 480 _ open-front.result all open-front.ensures.output_after

@@ -1,8 +1,8 @@
--- `records::seal::sealed_tag`: the definition's two cases.
+-- `records::keys::Keys::sealed_tag`: the definition's two cases.
 use mathlib.Core.Path.{sym, ◌∙◌}
 use Rattle.records.specs.Parts.{tag_over}
-use Rattle.records.proofs.Keys.{integrity_needs}
-use Rattle.records.proofs.seal.sealed_tag.Goals as goal
+use Rattle.records.proofs.Needs.{integrity_needs}
+use Rattle.records.proofs.keys.Keys.sealed_tag.Goals as goal
 
 pub record_cmac-requires : goal.record_cmac-requires
 record_cmac-requires c =

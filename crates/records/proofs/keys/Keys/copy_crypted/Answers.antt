@@ -1,24 +1,16 @@
--- `records::seal::copy_crypted`: counter mode under the name's ENC key, or the data as lent.
+-- `records::keys::Keys::copy_crypted`: counter mode under the name's ENC key, or the data as lent.
 use mathlib.Core.Path.{sym, ap₂, ◌∙◌}
 use mathlib.Core.List.{List}
 use Prim.Native.Nat.{ℕ}
 use Rattle.cipher.specs.Ctr.{ctr}
 use Rattle.spec.specs.Record.{sealed_data, crypt, enc_key}
-use Rattle.records.proofs.Keys.{confidential_needs}
-use Rattle.records.proofs.seal.copy_crypted.Goals as goal
+use Rattle.records.proofs.Needs.{confidential_needs}
+use Rattle.records.proofs.keys.Keys.copy_crypted.Goals as goal
 
 pub derive_encryption_key-key-requires : goal.derive_encryption_key-key-requires
 derive_encryption_key-key-requires c =
     let require-confidentiality = c.require_confidentiality in
-    let ready = c.requires.ready_for (confidential_needs c.args.flags (sym require-confidentiality.ensures ∙ c.if-require_confidentiality.true)) in
-    (ready.0, ready.2)
-
-pub crypt-requires : goal.crypt-requires
-crypt-requires c =
-    let if1 = c.if-require_confidentiality in
-    let require-confidentiality = c.require_confidentiality in
-    let ready = c.requires.ready_for (confidential_needs c.args.flags (sym require-confidentiality.ensures ∙ if1.true)) in
-    (ready.0, ready.1)
+    c.requires.ready_for (confidential_needs c.args.flags (sym require-confidentiality.ensures ∙ c.if-require_confidentiality.true))
 
 pub returns-then-require_confidentiality : goal.returns-then-require_confidentiality
 unfolding sealed_data crypt enc_key
