@@ -1,8 +1,6 @@
 // Get and info: a record is judged, and its data or its size and flags handed out.
 ghost use Rattle.std.specs.Prelude.{◌≡◌, true, [], ◌∷◌, ◌≤◌, length};
-ghost use Rattle.cipher.specs.Sbox.{sbox};
-ghost use Rattle.cipher.specs.Tables.{mix_table};
-ghost use Rattle.cipher.specs.Device.{Ready};
+ghost use Rattle.cipher.specs.Device.{IsPrepared};
 ghost use Rattle.spec.specs.Record.{require_replay_protection, well_formed, data_size_of, flags_of};
 ghost use Rattle.spec.specs.Status.{ok, first_of};
 ghost use Rattle.spec.specs.Decisions.{get_held, read_count, read_output};
@@ -19,9 +17,11 @@ use crate::judge::Judged;
 use crate::status::Refusal;
 use crate::{guard, judge, status};
 use buffers::parts;
+use cipher::kdf;
 use cipher::kdf::DeviceKey;
-use cipher::{kdf, tables};
-use records::{flags as flag, mac, open, record};
+use cipher::tables::Tables;
+use records::keys::Keys;
+use records::{flags as flag, mac, record};
 use slots::areas::Found;
 use slots::{AreaKind, areas, names};
 
@@ -40,21 +40,15 @@ pub fn early_status(kv: &[u8], rbp: &[u8], device_key: &[u8], name: &[u8]) -> u3
 }
 
 // The record's CMAC verifies, where integrity is flagged.
-fn is_authentic(
-    mix: &[u32; 256],
-    sub: &[u8; 256],
-    device: DeviceKey,
-    name: &[u8],
-    stored: &[u8],
-) -> bool
+fn is_authentic(keys: &Keys, stored: &[u8]) -> bool
     requires stored_value { well_formed stored.now ≡ true }
-    requires ready_for { ReadyFor (flags_of stored.now) mix.now sub.now device }
-    ensures { result ≡ authentic device.key name.now stored.now }
+    requires ready_for { ReadyFor (flags_of stored.now) keys.now.device.now }
+    ensures { result ≡ authentic keys.now.device.now.key keys.now.name.now stored.now }
 {
     if !flag::require_integrity(record::record_flags(stored)) {
         return true;
     }
-    mac::mac_difference(mix, sub, device, name, stored) == 0
+    keys.mac_difference(stored) == 0
 }
 
 // The record is the one that the chip knows, where replay protection is flagged.
@@ -99,21 +93,12 @@ pub fn keyless_status(held: bool, stored: &[u8], tag_held: bool) -> u32
 }
 
 // 11, 12 with replay protection and without, 14.
-pub fn held_status(
-    mix: &[u32; 256],
-    sub: &[u8; 256],
-    device: DeviceKey,
-    name: &[u8],
-    offset: usize,
-    stored: &[u8],
-    tag_held: bool,
-    tag: &[u8],
-) -> u32
+pub fn held_status(keys: &Keys, offset: usize, stored: &[u8], tag_held: bool, tag: &[u8]) -> u32
     requires tag_len { (tag_held ≡ true → length tag.now ≡ 16) × (well_formed stored.now ≡ true) }
-    requires ready_for { ReadyFor (flags_of stored.now) mix.now sub.now device }
-    ensures { result ≡ first_of (keyed_tests device.key name.now offset stored.now (given tag_held tag.now)) }
+    requires ready_for { ReadyFor (flags_of stored.now) keys.now.device.now }
+    ensures { result ≡ first_of (keyed_tests keys.now.device.now.key keys.now.name.now offset stored.now (given tag_held tag.now)) }
 {
-    if !is_authentic(mix, sub, device, name, stored) {
+    if !is_authentic(keys, stored) {
         return status::ERR_AUTHENTICATION;
     }
     if !is_fresh(tag_held, tag, stored) {
@@ -139,14 +124,13 @@ fn look_up(kv: &[u8], rbp: &[u8], name: &[u8]) -> Judged
 }
 
 // The device key, prepared where the record's flags ask for keys.
-fn key_for(mix: &[u32; 256], sub: &[u8; 256], device_key: &[u8], stored: &[u8]) -> DeviceKey
-    requires mix_value { (mix.now ≡ mix_table) × (sub.now ≡ sbox) }
-    requires device_key_len { (length device_key.now ≡ 16) × (well_formed stored.now ≡ true) }
+fn key_for(tables: &Tables, device_key: &[u8], stored: &[u8]) -> DeviceKey
+    requires { (length device_key.now ≡ 16) × (well_formed stored.now ≡ true) }
     ensures key_value { result.key ≡ device_key.now }
-    ensures ready_for { ReadyFor (flags_of stored.now) mix.now sub.now result }
+    ensures ready_for { ReadyFor (flags_of stored.now) result }
 {
     let wanted = flag::needs_keys(record::record_flags(stored));
-    kdf::prepare_if(wanted, mix, sub, parts::array16(device_key))
+    kdf::prepare_if(wanted, tables, parts::array::<16>(device_key))
 }
 
 // What a get decides once 1 to 3 have passed.
@@ -162,11 +146,15 @@ fn judge_held(kv: &[u8], rbp: &[u8], device_key: &[u8], name: &[u8], offset: usi
     let entry = seen.entry;
     let stored = areas::payload_at(AreaKind::Kv, kv, found);
     let tag = areas::payload_at(AreaKind::Rbp, rbp, entry);
-    let mix = tables::mix_table();
-    let sub = tables::sbox_table();
-    let device = key_for(&mix, &sub, device_key, stored);
+    let tables = Tables::new();
+    let device = key_for(&tables, device_key, stored);
+    let keys = Keys {
+        tables: &tables,
+        device: &device,
+        name,
+    };
     Judged {
-        status: held_status(&mix, &sub, device, name, offset, stored, entry.held, tag),
+        status: held_status(&keys, offset, stored, entry.held, tag),
         found,
         entry,
     }
@@ -183,34 +171,23 @@ pub fn judge(kv: &[u8], rbp: &[u8], device_key: &[u8], name: &[u8], offset: usiz
 }
 
 // The bytes of an accepted record, from an offset, to the front of the output. Those from its front need no array besides.
-pub fn read_record(
-    mix: &[u32; 256],
-    sub: &[u8; 256],
-    device: DeviceKey,
-    name: &[u8],
-    stored: &[u8],
-    offset: usize,
-    output: &mut [u8],
-) -> usize
+pub fn read_record(keys: &Keys, stored: &[u8], offset: usize, output: &mut [u8]) -> usize
     requires stored_value { (well_formed stored.now ≡ true) × (offset ≤ data_size_of stored.now) }
-    requires ready_for { ReadyFor (flags_of stored.now) mix.now sub.now device }
+    requires ready_for { ReadyFor (flags_of stored.now) keys.now.device.now }
     ensures value { result ≡ read_count offset output.old stored.now }
-    ensures output_after { output.new ≡ read_output device.key name.now offset output.old stored.now }
+    ensures output_after { output.new ≡ read_output keys.now.device.now.key keys.now.name.now offset output.old stored.now }
 {
     if offset == 0 {
-        return open::open_front(mix, sub, device, name, stored, output);
+        return keys.open_front(stored, output);
     }
-    let plain = open::open_record(mix, sub, device, name, stored);
+    let plain = keys.open_record(stored);
     let end = record::record_data_size(stored) as usize;
     parts::copy_fitting(&plain[offset..end], output)
 }
 
 // A get of a record that is well formed. Plaintext reaches the output only after all tests.
 fn get_record(
-    mix: &[u32; 256],
-    sub: &[u8; 256],
-    device: DeviceKey,
-    name: &[u8],
+    keys: &Keys,
     offset: usize,
     stored: &[u8],
     tag_held: bool,
@@ -218,64 +195,54 @@ fn get_record(
     output: &mut [u8],
 ) -> Result<usize, Refusal>
     requires tag_len { (tag_held ≡ true → length tag.now ≡ 16) × (well_formed stored.now ≡ true) }
-    requires ready_for { ReadyFor (flags_of stored.now) mix.now sub.now device }
-    ensures { record { status = status_of result; numbers = count_of result ∷ []; output = output.new } ≡ got_of device.key name.now offset stored.now (given tag_held tag.now) output.old }
+    requires ready_for { ReadyFor (flags_of stored.now) keys.now.device.now }
+    ensures { record { status = status_of result; numbers = count_of result ∷ []; output = output.new } ≡ got_of keys.now.device.now.key keys.now.name.now offset stored.now (given tag_held tag.now) output.old }
 {
-    let status = held_status(mix, sub, device, name, offset, stored, tag_held, tag);
+    let status = held_status(keys, offset, stored, tag_held, tag);
     if status != status::OK {
         return Err(Refusal::Other(status));
     }
-    let count = read_record(mix, sub, device, name, stored, offset, output);
+    let count = read_record(keys, stored, offset, output);
     Ok(count)
 }
 
 // A get of a name that was looked up, its record well formed.
 fn get_found(
-    mix: &[u32; 256],
-    sub: &[u8; 256],
-    device: DeviceKey,
+    keys: &Keys,
     kv: &[u8],
     rbp: &[u8],
-    name: &[u8],
     offset: usize,
     found: Found,
     entry: Found,
     output: &mut [u8],
 ) -> Result<usize, Refusal>
-    requires name_value { first_of (get_early kv.now rbp.now device.key name.now) ≡ ok }
-    requires value { record { status = ok; found = found; entry = entry } ≡ looked_up kv.now rbp.now name.now }
-    requires ready_for { ReadyFor (flags_of (payload_at kv_format kv.now found)) mix.now sub.now device }
-    ensures { record { status = status_of result; numbers = count_of result ∷ []; output = output.new } ≡ (store_get kv.now rbp.now device.key name.now offset output.old).answer }
+    requires name_value { first_of (get_early kv.now rbp.now keys.now.device.now.key keys.now.name.now) ≡ ok }
+    requires value { record { status = ok; found = found; entry = entry } ≡ looked_up kv.now rbp.now keys.now.name.now }
+    requires ready_for { ReadyFor (flags_of (payload_at kv_format kv.now found)) keys.now.device.now }
+    ensures { record { status = status_of result; numbers = count_of result ∷ []; output = output.new } ≡ (store_get kv.now rbp.now keys.now.device.now.key keys.now.name.now offset output.old).answer }
 {
     let stored = areas::payload_at(AreaKind::Kv, kv, found);
     let tag = areas::payload_at(AreaKind::Rbp, rbp, entry);
-    get_record(
-        mix, sub, device, name, offset, stored, entry.held, tag, output,
-    )
+    get_record(keys, offset, stored, entry.held, tag, output)
 }
 
 // A get once 1 to 3 have passed, with the tables and the device key lent, for who reads many names of one card.
 pub fn get_prepared(
-    mix: &[u32; 256],
-    sub: &[u8; 256],
-    device: DeviceKey,
+    keys: &Keys,
     kv: &[u8],
     rbp: &[u8],
-    name: &[u8],
     offset: usize,
     output: &mut [u8],
 ) -> Result<usize, Refusal>
-    requires name_value { first_of (get_early kv.now rbp.now device.key name.now) ≡ ok }
-    requires ready { Ready mix.now sub.now device }
-    ensures { record { status = status_of result; numbers = count_of result ∷ []; output = output.new } ≡ (store_get kv.now rbp.now device.key name.now offset output.old).answer }
+    requires name_value { first_of (get_early kv.now rbp.now keys.now.device.now.key keys.now.name.now) ≡ ok }
+    requires ready { IsPrepared keys.now.device.now }
+    ensures { record { status = status_of result; numbers = count_of result ∷ []; output = output.new } ≡ (store_get kv.now rbp.now keys.now.device.now.key keys.now.name.now offset output.old).answer }
 {
-    let seen = look_up(kv, rbp, name);
+    let seen = look_up(kv, rbp, keys.name);
     if seen.status != status::OK {
         return Err(Refusal::Other(seen.status));
     }
-    get_found(
-        mix, sub, device, kv, rbp, name, offset, seen.found, seen.entry, output,
-    )
+    get_found(keys, kv, rbp, offset, seen.found, seen.entry, output)
 }
 
 // The same for one name: nothing is prepared before the record is there.
@@ -296,12 +263,14 @@ fn get_held(
     }
     let found = seen.found;
     let stored = areas::payload_at(AreaKind::Kv, kv, found);
-    let mix = tables::mix_table();
-    let sub = tables::sbox_table();
-    let device = key_for(&mix, &sub, device_key, stored);
-    get_found(
-        &mix, &sub, device, kv, rbp, name, offset, found, seen.entry, output,
-    )
+    let tables = Tables::new();
+    let device = key_for(&tables, device_key, stored);
+    let keys = Keys {
+        tables: &tables,
+        device: &device,
+        name,
+    };
+    get_found(&keys, kv, rbp, offset, found, seen.entry, output)
 }
 
 pub fn get(

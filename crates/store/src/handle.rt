@@ -29,7 +29,7 @@ pub fn decode_handle(b: [u8; 88]) -> IncSetHandle
         name,
         name_len: numbers::le_at(&b, 64, 4),
         flags: numbers::le_at(&b, 68, 4),
-        iv: parts::array8(&b[72..80]),
+        iv: parts::array::<8>(&b[72..80]),
         final_data_size: numbers::le_at(&b, 80, 4),
         offset: numbers::le_at(&b, 84, 4),
     }

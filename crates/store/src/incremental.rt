@@ -51,7 +51,7 @@ fn new_handle(name: &[u8], flags: u32, iv: &[u8], final_data_size: usize) -> Inc
         name: filled,
         name_len: name.len() as u32,
         flags,
-        iv: parts::array8(iv),
+        iv: parts::array::<8>(iv),
         final_data_size: final_data_size as u32,
         offset: 0,
     }

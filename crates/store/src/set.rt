@@ -16,8 +16,10 @@ use crate::judge::Judged;
 use crate::status::Refusal;
 use crate::{guard, judge, status};
 use buffers::parts;
-use cipher::{kdf, tables};
-use records::{flags as flag, record, seal};
+use cipher::kdf;
+use cipher::tables::Tables;
+use records::keys::Keys;
+use records::{flags as flag, record};
 use slots::areas::Found;
 use slots::{AreaKind, areas, names};
 
@@ -101,10 +103,14 @@ fn make_record(device_key: [u8; 16], name: &[u8], flags: u32, iv: [u8; 8], data:
     requires { length «data».now ≤ 480 }
     ensures { result ≡ zero_fill 516 (seal_record device_key name.now flags iv «data».now) }
 {
-    let mix = tables::mix_table();
-    let sub = tables::sbox_table();
-    let device = kdf::prepare_if(flag::needs_keys(flags), &mix, &sub, device_key);
-    seal::seal_record(&mix, &sub, device, name, flags, iv, data)
+    let tables = Tables::new();
+    let device = kdf::prepare_if(flag::needs_keys(flags), &tables, device_key);
+    let keys = Keys {
+        tables: &tables,
+        device: &device,
+        name,
+    };
+    keys.seal_record(flags, iv, data)
 }
 
 // The record goes to its slot, and with replay protection its CMAC to the chip's.
@@ -177,8 +183,8 @@ pub fn set(
     if judged.status != status::OK {
         return Err(Refusal::Other(judged.status));
     }
-    let key = parts::array16(device_key);
-    let iv8 = parts::array8(iv);
+    let key = parts::array::<16>(device_key);
+    let iv8 = parts::array::<8>(iv);
     write_record(
         kv,
         rbp,

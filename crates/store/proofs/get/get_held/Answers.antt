@@ -32,15 +32,13 @@ payload_at-stored-requires c =
 
 pub key_for-device-requires : goal.key_for-device-requires
 key_for-device-requires c =
-    let sbox-table = c.sbox_table-sub in
-    let mix-table = c.mix_table-mix in
     let payload-at = c.payload_at-stored in
     let if1 = c.if-seen-ne-OK in
     let look_up = c.look_up-seen in
     let args = c.args in
     let seen = looked args.kv.now args.rbp.now args.device_key.now args.name.now c.requires
     look_up.result look_up.ensures if1.false in
-    record { mix_value = (mix-table.ensures, sbox-table.ensures); device_key_len = (seen.key_is_sized, seen.valid _ payload-at.ensures) }
+    (seen.key_is_sized, seen.valid _ payload-at.ensures)
 
 pub get_found-requires : goal.get_found-requires
 get_found-requires c =

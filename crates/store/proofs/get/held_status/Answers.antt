@@ -17,7 +17,7 @@ unfolding refuse_if
 returns-then-not-is_authentic c =
     let args = c.args in
     let s = args.stored.now in
-    let wrong = require_integrity (flags_of s) && not (mac_ok args.device.key args.name.now s) in
+    let wrong = require_integrity (flags_of s) && not (mac_ok args.keys.now.device.now.key args.keys.now.name.now s) in
     rw (not-false-is wrong (is_false c.is_authentic.ensures (ap not c.if-not-is_authentic.true)))
 
 pub returns-then-not-is_fresh : goal.returns-then-not-is_fresh
@@ -27,7 +27,7 @@ returns-then-not-is_fresh c =
     let is-authentic = c.is_authentic in
     let if1 = c.if-not-is_authentic in
     let s = args.stored.now in
-    let wrong = require_integrity (flags_of s) && not (mac_ok args.device.key args.name.now s) in
+    let wrong = require_integrity (flags_of s) && not (mac_ok args.keys.now.device.now.key args.keys.now.name.now s) in
     let stale = require_replay_protection (flags_of s) && not (tag_matches (given args.tag_held args.tag.now) s) in
     rw (
       not_true_is wrong (is_true is-authentic.ensures (ap not if1.false)),
@@ -46,7 +46,7 @@ returns c =
     let is-authentic = c.is_authentic in
     let args = c.args in
     let s = args.stored.now in
-    let wrong = require_integrity (flags_of s) && not (mac_ok args.device.key args.name.now s) in
+    let wrong = require_integrity (flags_of s) && not (mac_ok args.keys.now.device.now.key args.keys.now.name.now s) in
     let stale = require_replay_protection (flags_of s) && not (tag_matches (given args.tag_held args.tag.now) s) in
     let downgrade = downgrade_tests record-flags.result args.tag_held in
     c.first.ensures

@@ -5,7 +5,7 @@ use Prim.Native.Nat.{ℕ}
 use lib.Dec.{eqb}
 use Rattle.spec.specs.Record.{require_integrity, flags_of}
 use Rattle.spec.proofs.TagComparison.{mac_decided}
-use Rattle.records.proofs.Keys.{integrity_needs}
+use Rattle.records.proofs.Needs.{integrity_needs}
 use Rattle.store.proofs.Tests.{is_false, is_true}
 use Rattle.std.proofs.Common.{not}
 use Rattle.store.proofs.get.is_authentic.Goals as goal
@@ -26,5 +26,5 @@ returns c =
     let require-integrity = c.require_integrity in
     let if1 = c.if-not-require_integrity in
     ap (λ (d : ℕ). eqb d 0) c.mac_difference.ensures
-    ∙ mac_decided c.args.device.key c.args.name.now c.args.stored.now c.requires.stored_value
+    ∙ mac_decided c.args.keys.now.device.now.key c.args.keys.now.name.now c.args.stored.now c.requires.stored_value
     ∙ rw (← record-flags.ensures, is_true require-integrity.ensures (ap not if1.false)) (sym (not-not _))

@@ -31,8 +31,8 @@ slice_bounds-copy_fitting-end c =
     let open-record = c.open_record-plain in
     let record-data-size = c.record_data_size-end in
     let r = args.stored.now in
-    let p = plaintext args.device.key args.name.now r in
-    let whole : length p ≡ data_size_of r = plaintext-length args.device.key args.name.now r (valid-record r pre.stored_value.0) in
+    let p = plaintext args.keys.now.device.now.key args.keys.now.name.now r in
+    let whole : length p ≡ data_size_of r = plaintext-length args.keys.now.device.now.key args.keys.now.name.now r (valid-record r pre.stored_value.0) in
     let small : data_size_of r ≤ 480 = (valid-record r pre.stored_value.0).data_size in
     let long : length open-record.result ≡ 480 = ap length open-record.ensures ∙ length-zero_fill 480 p (omega arith) in
     omega (arith, record-data-size.ensures)
@@ -48,8 +48,8 @@ returns c =
     let r = args.stored.now in
     let o = args.offset in
     let out = args.output.now in
-    let p = plaintext args.device.key args.name.now r in
-    let whole : length p ≡ data_size_of r = plaintext-length args.device.key args.name.now r (valid-record r pre.stored_value.0) in
+    let p = plaintext args.keys.now.device.now.key args.keys.now.name.now r in
+    let whole : length p ≡ data_size_of r = plaintext-length args.keys.now.device.now.key args.keys.now.name.now r (valid-record r pre.stored_value.0) in
     let part : take (record-data-size.result - o) (drop o open-record.result) ≡ drop o p =
     rw (open-record.ensures, record-data-size.ensures, ← whole) (data_part p (zeros (480 - length p)) o (rw whole pre.stored_value.1)) in
     let n : copy-fitting.result ≡ min (length out) (data_size_of r - o) =

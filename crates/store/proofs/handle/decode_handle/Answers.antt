@@ -8,7 +8,7 @@ returns c = λ i. record {
   name = c.copy_from_slice.ensures.after i;
   name_len = c.le_at.ensures i;
   flags = c.le_at-2.ensures i;
-  iv = c.array8.ensures i;
+  iv = c.array.ensures i;
   final_data_size = c.le_at-3.ensures i;
   offset = c.le_at-4.ensures i;
 }

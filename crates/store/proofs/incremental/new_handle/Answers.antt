@@ -13,7 +13,7 @@ returns c =
       name = filled i;
       name_len = length n;
       flags = c.args.flags;
-      iv = c.array8.ensures i;
+      iv = c.array.ensures i;
       final_data_size = c.args.final_data_size;
       offset = 0;
     }

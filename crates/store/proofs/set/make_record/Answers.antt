@@ -3,7 +3,7 @@ use mathlib.Core.Path.{ap, ◌∙◌}
 use mathlib.Core.List.{List}
 use Prim.Native.Nat.{ℕ}
 use Rattle.buffers.specs.Bytes.{zero_fill}
-use Rattle.records.proofs.Keys.{key-kept, ready_for}
+use Rattle.records.proofs.Needs.{key-kept, ready_for}
 use Rattle.spec.specs.Record.{seal_record}
 use Rattle.store.proofs.set.make_record.Goals as goal
 
@@ -11,13 +11,10 @@ pub seal_record-requires : goal.seal_record-requires
 seal_record-requires c =
     let prepare-if = c.prepare_if-device in
     let needs-keys = c.needs_keys in
-    let sbox-table = c.sbox_table-sub in
-    let mix-table = c.mix_table-mix in
     let args = c.args in
     record {
       value_len_bound = c.requires;
-      ready_for = ready_for needs-keys.result args.device_key prepare-if.result prepare-if.ensures args.flags
-          mix-table.result sbox-table.result mix-table.ensures sbox-table.ensures needs-keys.ensures;
+      ready_for = ready_for needs-keys.result args.device_key prepare-if.result prepare-if.ensures args.flags needs-keys.ensures;
     }
 
 pub returns : goal.returns

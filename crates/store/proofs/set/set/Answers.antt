@@ -1,5 +1,6 @@
 -- `store::set::set`: what the judgement says, then the record is written.
 use mathlib.Core.Path.{◌∙◌}
+use native.Mathlib.Omega.{arith}
 use Rattle.store.specs.Parts.{record_written}
 use Rattle.store.proofs.SetCall.{set-refused, set_accepted}
 use Rattle.store.proofs.set.set.Goals as goal
@@ -11,29 +12,29 @@ returns-then-judged-ne-OK c =
     set-refused args.kv.now args.rbp.now args.device_key.now args.name.now args.flags args.iv.now args.«data».now
     judge.result judge.ensures c.if-judged-ne-OK.true
 
-pub array16-key-requires : goal.array16-key-requires
-array16-key-requires c =
+pub array-key-requires : goal.array-key-requires
+array-key-requires c =
     let args = c.args in
     let judge = c.judge-judged in
     let a = set_accepted args.kv.now args.rbp.now args.device_key.now args.name.now args.flags args.iv.now args.«data».now
     judge.result judge.ensures c.if-judged-ne-OK.false in
-    a.key_is_sized
+    (omega arith, a.key_is_sized)
 
-pub array8-iv8-requires : goal.array8-iv8-requires
-array8-iv8-requires c =
+pub array-iv8-requires : goal.array-iv8-requires
+array-iv8-requires c =
     let args = c.args in
     let judge = c.judge-judged in
     let if1 = c.if-judged-ne-OK in
     let a = set_accepted args.kv.now args.rbp.now args.device_key.now args.name.now args.flags args.iv.now args.«data».now
     judge.result judge.ensures if1.false in
-    a.iv_is_sized
+    (omega arith, a.iv_is_sized)
 
 pub write_record-requires : goal.write_record-requires
 write_record-requires c =
     let args = c.args in
     let judge = c.judge-judged in
     let if1 = c.if-judged-ne-OK in
-    let array8 = c.array8-iv8 in
+    let array8 = c.array-iv8 in
     let a = set_accepted args.kv.now args.rbp.now args.device_key.now args.name.now args.flags args.iv.now args.«data».now
     judge.result judge.ensures if1.false in
     record { undamaged = a.undamaged; can_insert = (a.kv_slot, a.rbp_slot); name_value = (a.name_valid, rw array8.ensures a.sealable) }
@@ -43,8 +44,8 @@ returns c =
     let args = c.args in
     let judge = c.judge-judged in
     let if1 = c.if-judged-ne-OK in
-    let array16 = c.array16-key in
-    let array8 = c.array8-iv8 in
+    let array16 = c.array-key in
+    let array8 = c.array-iv8 in
     let write-record = c.write_record in
     let a = set_accepted args.kv.now args.rbp.now args.device_key.now args.name.now args.flags args.iv.now args.«data».now
     judge.result judge.ensures if1.false in
