@@ -2,6 +2,7 @@
 ghost use Rattle.std.specs.Prelude.{◌≡◌, []};
 ghost use Rattle.spec.specs.Incremental as Incremental;
 
+use store::status::number;
 use store::{handle, incremental};
 
 #[unsafe(no_mangle)]
@@ -16,8 +17,8 @@ pub extern "C" fn securestore_set_start(
     ensures handle_after { handle.new ≡ Incremental.handle_bytes (Incremental.set_start name.now flags iv.now final_data_size).after }
 {
     let answer = incremental::set_start(name, flags, iv, final_data_size);
-    *handle = handle::encode_handle(answer.handle);
-    answer.status
+    *handle = handle::encode_handle(answer.unwrap_or(incremental::zero_handle()));
+    number(answer)
 }
 
 #[unsafe(no_mangle)]
@@ -30,9 +31,10 @@ pub extern "C" fn securestore_set_add_data(
     ensures handle_after { handle.new ≡ Incremental.handle_bytes (Incremental.set_add_data (Incremental.handle_of handle.old) staging.old chunk.now).after.handle }
     ensures staging_after { staging.new ≡ (Incremental.set_add_data (Incremental.handle_of handle.old) staging.old chunk.now).after.staging }
 {
-    let answer = incremental::set_add_data(handle::decode_handle(*handle), staging, chunk);
-    *handle = handle::encode_handle(answer.handle);
-    answer.status
+    let mut held = handle::decode_handle(*handle);
+    let answer = incremental::set_add_data(&mut held, staging, chunk);
+    *handle = handle::encode_handle(held);
+    number(answer)
 }
 
 #[unsafe(no_mangle)]
@@ -45,5 +47,5 @@ pub extern "C" fn securestore_set_finalize(
 ) -> u32
     ensures { record { answer = record { status = result; numbers = []; output = [] }; after = record { kv = kv.new; rbp = rbp.new } } ≡ Incremental.store_set_finalize kv.old rbp.old device_key.now (Incremental.handle_of handle.now) staging.now }
 {
-    incremental::set_finalize(kv, rbp, device_key, handle::decode_handle(*handle), staging)
+    number(incremental::set_finalize(kv, rbp, device_key, handle::decode_handle(*handle), staging))
 }

@@ -2,6 +2,8 @@
 ghost use Rattle.std.specs.Prelude.{◌≡◌, [], ◌∷◌};
 ghost use Rattle.spec.specs.Calls as Calls;
 
+use store::answers::{Info, Iterated};
+use store::status::number;
 use store::{get, iterate, remove, reset, set};
 
 #[unsafe(no_mangle)]
@@ -16,7 +18,7 @@ pub extern "C" fn securestore_set(
 ) -> u32
     ensures { record { answer = record { status = result; numbers = []; output = [] }; after = record { kv = kv.new; rbp = rbp.new } } ≡ Calls.store_set kv.old rbp.old device_key.now name.now flags iv.now «data».now }
 {
-    set::set(kv, rbp, device_key, name, flags, iv, data)
+    number(set::set(kv, rbp, device_key, name, flags, iv, data))
 }
 
 #[unsafe(no_mangle)]
@@ -32,8 +34,8 @@ pub extern "C" fn securestore_get(
     ensures { record { status = result; numbers = count.new ∷ []; output = output.new } ≡ (Calls.store_get kv.now rbp.now device_key.now name.now offset output.old).answer }
 {
     let answer = get::get(kv, rbp, device_key, name, offset, output);
-    *count = answer.count;
-    answer.status
+    *count = answer.unwrap_or(0);
+    number(answer)
 }
 
 #[unsafe(no_mangle)]
@@ -48,23 +50,27 @@ pub extern "C" fn securestore_get_info(
     ensures { record { status = result; numbers = data_size.new ∷ flags.new ∷ []; output = [] } ≡ (Calls.store_get_info kv.now rbp.now device_key.now name.now).answer }
 {
     let answer = get::get_info(kv, rbp, device_key, name);
-    *data_size = answer.data_size;
-    *flags = answer.flags;
-    answer.status
+    let info = answer.unwrap_or(Info {
+        data_size: 0,
+        flags: 0,
+    });
+    *data_size = info.data_size;
+    *flags = info.flags;
+    number(answer)
 }
 
 #[unsafe(no_mangle)]
 pub extern "C" fn securestore_remove(kv: &mut [u8], rbp: &mut [u8], name: &[u8]) -> u32
     ensures { record { answer = record { status = result; numbers = []; output = [] }; after = record { kv = kv.new; rbp = rbp.new } } ≡ Calls.store_remove kv.old rbp.old name.now }
 {
-    remove::remove(kv, rbp, name)
+    number(remove::remove(kv, rbp, name))
 }
 
 #[unsafe(no_mangle)]
 pub extern "C" fn securestore_reset(kv: &mut [u8], rbp: &mut [u8]) -> u32
     ensures { record { answer = record { status = result; numbers = []; output = [] }; after = record { kv = kv.new; rbp = rbp.new } } ≡ Calls.store_reset kv.old rbp.old }
 {
-    reset::reset(kv, rbp)
+    number(reset::reset(kv, rbp))
 }
 
 #[unsafe(no_mangle)]
@@ -80,7 +86,11 @@ pub extern "C" fn securestore_iterator_next(
     ensures { record { status = result; numbers = name_len.new ∷ next_slot.new ∷ []; output = name_buf.new } ≡ (Calls.store_iterator_next kv.now rbp.now prefix.now start_slot name_buf.old).answer }
 {
     let answer = iterate::iterator_next(kv, rbp, prefix, start_slot, name_buf);
-    *name_len = answer.name_len;
-    *next_slot = answer.next_slot;
-    answer.status
+    let next = answer.unwrap_or(Iterated {
+        name_len: 0,
+        next_slot: 0,
+    });
+    *name_len = next.name_len;
+    *next_slot = next.next_slot;
+    number(answer)
 }

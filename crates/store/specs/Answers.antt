@@ -5,6 +5,7 @@
 --   count_of    the number that a call gave, 0 where it was refused
 --   no_info, no_name    01: "Every refusal returns 0 for the count and for every other returned number but its own"
 use Rattle.std.specs.Prelude.{ℕ, Result, Ok, Err}
+use Rattle.std.specs.Result.{result_unwrap_or}
 use Rattle.store.specs.declared.answers.Info.{Info}
 use Rattle.store.specs.declared.answers.Iterated.{Iterated}
 use Rattle.store.specs.declared.status.Refusal.{Refusal}
@@ -35,8 +36,7 @@ status_of (Ok _) = 0
 status_of (Err refusal) = code refusal
 
 abbrev pub value_or : {A : Type 0} → A → Result A Refusal → A
-value_or _ (Ok value) = value
-value_or other (Err _) = other
+value_or other answer = result_unwrap_or answer other
 
 abbrev pub count_of : Result ℕ Refusal → ℕ
 count_of = value_or 0

@@ -9,6 +9,8 @@ use Rattle.ffi.proofs.incremental_calls.securestore_set_start.Goals as goal
 pub returns : goal.returns
 returns c =
     let set-start = c.set_start-answer in
-    let encode-handle = c.encode_handle in
     let e = set-start.ensures in
-    record { value = ap (λ (o : Outcome IncSetHandle Answer). o.answer.status) e; handle_after = encode-handle.ensures ∙ ap (λ (o : Outcome IncSetHandle Answer). handle_bytes o.after) e }
+    record {
+      value = c.number.ensures ∙ ap (λ (o : Outcome IncSetHandle Answer). o.answer.status) e;
+      handle_after = rw (c.encode_handle.ensures, c.unwrap_or.ensures, c.zero_handle.ensures) (ap (λ (o : Outcome IncSetHandle Answer). handle_bytes o.after) e);
+    }
