@@ -1,7 +1,8 @@
 -- The number that a comparison hands back: written out, bit by bit, and its size.
 use mathlib.Core.Path.{◌≡◌, refl, sym, ap, ◌∙◌}
 use mathlib.Core.Logic.{◌≢◌}
-use mathlib.Core.List.{List, foldl, zip_with}
+use mathlib.Core.List.{List, zip_with}
+use Rattle.std.specs.List.{fold}
 use Prim.Native.Nat.{ℕ, zero, suc, ◌/◌, ◌%◌, ◌^◌, ◌≤◌, ◌<◌}
 use native.Mathlib.Nat.{mod-lt, div-le_self, zero-lt-suc}
 use native.Mathlib.Numerals.{add-one}
@@ -22,7 +23,7 @@ first_pairs a b zero = 0
 first_pairs a b (suc n) = bit_or (first_pairs a b n) (bit_xor (get_or a n 0) (get_or b n 0))
 
 pairs-left : (a b : List ℕ) (n : ℕ) → n ≤ length a → length a ≡ length b
-    → foldl bit_or (first_pairs a b n) (zip_with bit_xor (drop n a) (drop n b)) ≡ diff_accumulate a b
+    → fold bit_or (first_pairs a b n) (zip_with bit_xor (drop n a) (drop n b)) ≡ diff_accumulate a b
 unfolding or_all diff_accumulate
 pairs-left a b zero h e = refl
 pairs-left a b (suc n) h e = rw (add-one n) at (diff_step a b (first_pairs a b n) n (omega arith) (omega arith)) ∙ pairs-left a b n (omega arith) e

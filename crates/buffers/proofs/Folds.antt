@@ -1,8 +1,9 @@
 -- Tests that join all bytes by or and exclusive or, and decide at the end. Assumes nothing.
 use mathlib.Core.Path.{◌≡◌, refl, sym, ap, ap₂, ◌∙◌}
 use mathlib.Core.Bool.{Bool, true, false, ◌&&◌, and_assoc}
-use mathlib.Core.List.{List, [], ◌∷◌, foldl, zip_with}
-use Prim.Native.Nat.{ℕ, suc, ◌+◌, ◌<◌}
+use mathlib.Core.List.{List, [], ◌∷◌, zip_with}
+use Rattle.std.specs.List.{fold, zip}
+use Prim.Native.Nat.{ℕ, ◌+◌, ◌<◌}
 use native.Mathlib.Numerals.{add-one}
 use native.Mathlib.Omega.{arith}
 use borrow.Author.Tests.{eqb-true, eqb-false, eq-eqb, ne_eqb}
@@ -30,7 +31,7 @@ xor-test a b = split (eqb a b)
     (λ e. rw e (eq-eqb (bit_xor a b) 0 (let p = eqb-true a b e in rw p (xor_self b))))
     (λ e. rw e (ne_eqb (bit_xor a b) 0 (λ z. eqb-false a b e (omega (arith, xor_add_and a b, and_le_l a b, and_le_r a b)))))
 
-fold-test : (l : List ℕ) (acc : ℕ) → eqb (foldl bit_or acc l) 0 ≡ (eqb acc 0 && all_zero l)
+pub fold-test : (l : List ℕ) (acc : ℕ) → eqb (fold bit_or acc l) 0 ≡ (eqb acc 0 && all_zero l)
 fold-test [] acc = split (eqb acc 0) (λ e. rw e) (λ e. rw e)
 fold-test (x ∷ l) acc = fold-test l (bit_or acc x) ∙ rw (or-test acc x) (and_assoc (eqb acc 0) (eqb x 0) (all_zero l))
 
@@ -50,15 +51,16 @@ pub diff-test : (a b : List ℕ) → length a ≡ length b → eqb (diff_accumul
 unfolding diff_accumulate
 diff-test a b e = or-all-test (zip_with bit_xor a b) ∙ bytes-xor a b e
 
--- one turn of a loop that joins
-pub zero_turn : (s : List ℕ) (acc i : ℕ) → i < length s
-    → (eqb (bit_or acc (get_or s i 0)) 0 && all_zero (drop (i + 1) s)) ≡ (eqb acc 0 && all_zero (drop i s))
-zero_turn s acc i h =
-    rw (add-one i, drop-cons s i 0 h, or-test acc (get_or s i 0)) (and_assoc (eqb acc 0) (eqb (get_or s i 0) 0) (all_zero (drop (suc i) s)))
+-- the pairs of a chain, joined one by one
+pub pairs-fold : (a b : List ℕ) (acc : ℕ) → fold (λ n p. bit_or n (bit_xor p.0 p.1)) acc (zip a b) ≡ fold bit_or acc (zip_with bit_xor a b)
+unfolding zip_with
+pairs-fold [] b acc = refl
+pairs-fold (x ∷ a) [] acc = refl
+pairs-fold (x ∷ a) (y ∷ b) acc = pairs-fold a b (bit_or acc (bit_xor x y))
 
 pub diff_step : (a b : List ℕ) (acc i : ℕ) → i < length a → i < length b
-    → foldl bit_or (bit_or acc (bit_xor (get_or a i 0) (get_or b i 0))) (zip_with bit_xor (drop (i + 1) a) (drop (i + 1) b))
-    ≡ foldl bit_or acc (zip_with bit_xor (drop i a) (drop i b))
+    → fold bit_or (bit_or acc (bit_xor (get_or a i 0) (get_or b i 0))) (zip_with bit_xor (drop (i + 1) a) (drop (i + 1) b))
+    ≡ fold bit_or acc (zip_with bit_xor (drop i a) (drop i b))
 unfolding zip_with
 diff_step a b acc i ha hb =
-    rw add-one (sym (ap (foldl bit_or acc) (ap₂ (zip_with bit_xor) (drop-cons a i 0 ha) (drop-cons b i 0 hb))))
+    rw add-one (sym (ap (fold bit_or acc) (ap₂ (zip_with bit_xor) (drop-cons a i 0 ha) (drop-cons b i 0 hb))))

@@ -1,14 +1,17 @@
 -- Little-endian numbers written and read byte by byte, over the width. Assumes nothing.
 use mathlib.Core.Path.{◌≡◌, refl, sym, ap, ◌∙◌}
-use mathlib.Core.List.{List, [], ◌∷◌, ◌++◌}
+use mathlib.Core.List.{List, [], ◌∷◌, ◌++◌, reverse, reverse-cons}
 use Prim.Native.Nat.{ℕ, zero, suc, ◌+◌, ◌-◌, ◌*◌, ◌/◌, ◌%◌, ◌^◌, ◌≤◌, ◌<◌}
 use native.Mathlib.Nat.{not-suc-le-zero, le_of_suc-le-suc, pow-succ', div-div-eq-div-mul}
 use native.Mathlib.Numerals.{add-one}
 use native.Mathlib.Omega.{arith}
 use borrow.Author.Tests.{ltb-true, ltb-false}
+use lib.Bits.{bit_or}
 use lib.Dec.{ltb}
 use lib.ListN.{length, get_or, take, drop, set, drop_of_length-le, get_or-eq_default}
 use lib.Seq.{append_snoc, take-suc-set, drop-cons}
+use Rattle.std.specs.List.{fold}
+use Rattle.std.proofs.lemmas.Grind.{or_after_shift, fold-append}
 use Rattle.buffers.specs.Bytes.{le_bytes, le_value, le_at, u16_at, u32_at}
 use Rattle.buffers.proofs.Split.{split}
 
@@ -19,10 +22,6 @@ put_step l n i value hn hl =
     let e : n - i ≡ suc (n - (i + 1)) = omega arith in
     rw (e, add-one, take-suc-set l i (value % 256) hl) (append_snoc (take i l) (value % 256) (le_bytes (n - suc i) (value / 256)))
 
--- one more byte is read, from the last to the first
-pub read_step : (l : List ℕ) (i value : ℕ) → i < length l → value ≡ le_value (drop (suc i) l) → get_or l i 0 + 256 * value ≡ le_value (drop i l)
-read_step l i value h e = rw (drop-cons l i 0 h, e)
-
 pub value-bound : (l : List ℕ) (k : ℕ) → length l ≤ k → ((i : ℕ) → get_or l i 0 < 256) → le_value l < 256 ^ k
 value-bound [] zero h f = omega arith
 value-bound [] (suc k) h f = let e : 256 ^ suc k ≡ 256 * 256 ^ k = omega arith in let r = value-bound [] k (omega arith) f in omega arith
@@ -32,6 +31,18 @@ value-bound (b ∷ l) (suc k) h f =
     let r = value-bound l k (omega arith) (λ i. f (suc i)) in
     let b-bound = f 0 in
     omega arith
+
+-- the bytes of at most four, joined from the last to the first
+abbrev join : ℕ → ℕ → ℕ
+join v b = bit_or (v * 2 ^ 8 % 2 ^ 32) b
+
+pub joined : (l : List ℕ) → length l ≤ 4 → ((i : ℕ) → get_or l i 0 < 256) → fold join 0 (reverse l) ≡ le_value l
+joined [] h f = refl
+joined (b ∷ l) h f =
+    let small = value-bound l 3 (omega arith) (λ i. f (suc i)) in
+    let b-bound = f 0 in
+    let shifted : bit_or (le_value l * 2 ^ 8 % 2 ^ 32) b ≡ le_value l * 2 ^ 8 + b = or_after_shift (le_value l) (2 ^ 8) (2 ^ 32) b refl (omega arith) (omega arith) in
+    rw (reverse-cons, fold-append, joined l (omega arith) (λ i. f (suc i))) (shifted ∙ omega arith)
 
 -- the k bytes from i on, each by its index: past the end they count nothing
 abbrev bytes_from : List ℕ → ℕ → ℕ → List ℕ

@@ -2,6 +2,8 @@
 ghost use Rattle.std.specs.Prelude.{◌≡◌, ◌+◌, ◌*◌, ◌≤◌, ◌<◌, min, length, get_or};
 ghost use Rattle.buffers.specs.Bytes.{le_bytes, le_value, le_at, put_at};
 
+use crate::parts;
+
 pub fn least(a: usize, b: usize) -> usize
     ensures { result ≡ min a b }
 {
@@ -13,11 +15,9 @@ fn put_le(value: u32, dst: &mut [u8])
     ensures { dst.new ≡ le_bytes (length dst.old) value }
 {
     let mut rest = value;
-    let mut i = 0;
-    while i < dst.len() {
-        dst[i] = (rest % 256) as u8;
-        rest = rest / 256;
-        i += 1;
+    for byte in dst.iter_mut() {
+        *byte = (rest % 256) as u8;
+        rest /= 256;
     }
 }
 
@@ -25,13 +25,9 @@ fn read_le(src: &[u8]) -> u32
     requires { length src.now ≤ 4 }
     ensures { result ≡ le_value src.now }
 {
-    let mut value: u32 = 0;
-    let mut i = src.len();
-    while 0 < i {
-        i -= 1;
-        value = src[i] as u32 + 256 * value;
-    }
-    value
+    src.iter()
+        .rev()
+        .fold(0u32, |value, byte| value << 8 | u32::from(*byte))
 }
 
 pub fn put_le_at(value: u32, dst: &mut [u8], at: usize, width: usize)
@@ -50,20 +46,10 @@ pub fn le_at(src: &[u8], at: usize, width: usize) -> u32
     read_le(&src[at..end])
 }
 
-// A byte, with its bound for the sum that it goes into.
-fn wide(x: u8) -> u32
-    ensures { (result ≡ x) × (result < 256) }
-{
-    x as u32
-}
-
-// Four bytes with the first highest, a number that orders as they do. A sum of just this shape is compiled to one load.
+// Four bytes with the first highest.
 pub fn be32_at(src: &[u8], at: usize) -> u32
     requires { at + 4 ≤ length src.now }
     ensures { result ≡ get_or src.now at 0 * 0x1000000 + get_or src.now (at + 1) 0 * 0x10000 + get_or src.now (at + 2) 0 * 0x100 + get_or src.now (at + 3) 0 }
 {
-    wide(src[at]) * 0x1000000
-        + wide(src[at + 1]) * 0x10000
-        + wide(src[at + 2]) * 0x100
-        + wide(src[at + 3])
+    u32::from_be_bytes(parts::array(&src[at..at + 4]))
 }

@@ -5,11 +5,7 @@ ghost use Rattle.buffers.specs.Bytes.{zeros, put_at};
 pub fn clear(part: &mut [u8])
     ensures { part.new ≡ zeros (length part.old) }
 {
-    let mut i = 0;
-    while i < part.len() {
-        part[i] = 0;
-        i += 1;
-    }
+    part.fill(0);
 }
 
 // Every byte w bytes on; the first w bytes stay, and the last w go.
@@ -17,11 +13,8 @@ pub fn move_up(part: &mut [u8], w: usize)
     requires { w ≤ length part.old }
     ensures { part.new ≡ take w part.old ++ take (length part.old - w) part.old }
 {
-    let mut i = part.len() - w;
-    while 0 < i {
-        i -= 1;
-        part[i + w] = part[i];
-    }
+    let n = part.len() - w;
+    part.copy_within(0..n, w);
 }
 
 // Every byte w bytes back; the first w bytes go, and the last w stay.
@@ -29,12 +22,8 @@ pub fn move_down(part: &mut [u8], w: usize)
     requires { w ≤ length part.old }
     ensures { part.new ≡ drop w part.old ++ drop (length part.old - w) part.old }
 {
-    let n = part.len() - w;
-    let mut i = 0;
-    while i < n {
-        part[i] = part[i + w];
-        i += 1;
-    }
+    let n = part.len();
+    part.copy_within(w..n, 0);
 }
 
 pub fn paste(dst: &mut [u8], at: usize, src: &[u8])
@@ -50,14 +39,9 @@ pub fn copy_fitting(src: &[u8], dst: &mut [u8]) -> usize
     ensures value { result ≡ min (length dst.old) (length src.now) }
     ensures dst_after { dst.new ≡ take result src.now ++ drop result dst.old }
 {
-    let room = dst.len();
-    if src.len() <= room {
-        let n = src.len();
-        dst[0..n].copy_from_slice(src);
-        return n;
-    }
-    dst.copy_from_slice(&src[0..room]);
-    room
+    let n = dst.len().min(src.len());
+    dst[0..n].copy_from_slice(&src[0..n]);
+    n
 }
 
 // The bytes of a part, as an array of their number.

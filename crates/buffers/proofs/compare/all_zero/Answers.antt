@@ -1,24 +1,15 @@
--- `buffers::compare::all_zero`. The invariant: what was seen is zero, and the rest is, just where the whole is.
-use mathlib.Core.Path.{◌≡◌, refl, sym, ◌∙◌}
-use mathlib.Core.List.{[]}
-use native.Mathlib.Omega.{arith}
-use borrow.Author.Rules.{rules}
+-- `buffers::compare::all_zero`: the decision at the end of an or over all bytes.
+use mathlib.Core.Path.{◌≡◌, ap, ◌∙◌}
+use Rattle.std.specs.List.{fold}
+use Prim.Native.Nat.{ℕ}
+use lib.Bits.{bit_or}
 use lib.Dec.{eqb}
-use lib.ListN.{drop, drop_of_length-le}
-use Rattle.buffers.proofs.Folds.{and-true, zero_turn}
+use Rattle.std.proofs.Common.{rules}
+use Rattle.std.proofs.iter.runs.Made.{chains}
+use Rattle.buffers.proofs.Folds.{fold-test}
 use Rattle.buffers.proofs.compare.all_zero.Goals as goal
-
-pub loop-i-init : goal.loop-i-init
-loop-i-init c = (search rules, refl)
-
-pub loop-i-preserved : goal.loop-i-preserved
-loop-i-preserved c =
-    let l = c.loop-i in
-    (omega arith, zero_turn c.args.s.now l.seen l.i c.loop-i-test.true ∙ l.invariant.1)
 
 pub returns : goal.returns
 returns c =
-    let l = c.loop-i in
-    let s = c.args.s.now in
-    let end : drop l.i s ≡ [] = drop_of_length-le s {i = l.i} (omega arith) in
-    sym (and-true (eqb l.seen 0)) ∙ rw end at l.invariant.1
+    let or : c.fold.result ≡ fold bit_or 0 c.args.s.now = search (rules, chains) in
+    ap (λ (n : ℕ). eqb n 0) or ∙ fold-test c.args.s.now 0

@@ -1,26 +1,19 @@
--- `buffers::compare::diff_accumulate`. The invariant: the differences of what is left, joined to those so far, are those of the whole.
-use mathlib.Core.Path.{refl, ◌∙◌}
-use mathlib.Core.List.{zip_with}
-use native.Mathlib.Omega.{arith}
-use lib.ListN.{drop_of_length-le}
-use borrow.Author.Rules.{rules}
+-- `buffers::compare::diff_accumulate`: an or over the exclusive ors of all pairs.
+use mathlib.Core.Path.{◌∙◌}
+use Prim.Native.Nat.{ℕ}
+use lib.Bits.{bit_or, bit_xor}
 use Rattle.buffers.specs.Compare.{or_all, diff_accumulate}
-use Rattle.buffers.proofs.Folds.{diff_step}
+use Rattle.std.proofs.Common.{rules}
+use Rattle.std.proofs.lemmas.Iterator.{YieldsList-from_slice, YieldsList-from_zip}
+use Rattle.std.proofs.lemmas.Iterator.Consumers.{fold_from_yields_List}
+use Rattle.buffers.proofs.Folds.{pairs-fold}
 use Rattle.buffers.proofs.compare.diff_accumulate.Goals as goal
 
-pub loop-i-init : goal.loop-i-init
-unfolding or_all diff_accumulate
-loop-i-init c = (search rules, search rules, refl)
-
-pub loop-i-preserved : goal.loop-i-preserved
-loop-i-preserved c =
-    let l = c.loop-i in
-    let a = c.args in
-    (search rules, search rules, diff_step a.a.now a.b.now l.diff l.i (omega arith) (omega arith) ∙ l.invariant.2)
-
 pub returns : goal.returns
-unfolding zip_with
+unfolding or_all diff_accumulate
 returns c =
-    let l = c.loop-i in
-    let done = drop_of_length-le c.args.a.now {i = l.i} (omega arith) in
-    rw done at l.invariant.2
+    let a = c.args.a.now in
+    let b = c.args.b.now in
+    let pairs = YieldsList-from_zip {s = c.zip.result} (YieldsList-from_slice a cc) (YieldsList-from_slice b cc) in
+    fold_from_yields_List _ (λ (n : ℕ) (p : ℕ × ℕ). bit_or n (bit_xor p.0 p.1)) 0 c.fold.result c.fold.ensures.ran pairs (λ n x r q k. search rules)
+    ∙ pairs-fold a b 0
