@@ -2,11 +2,10 @@
 use mathlib.Core.Path.{◌≡◌, sym, ap, ◌∙◌}
 use mathlib.Core.Bool.{Bool, true, false}
 use mathlib.Core.List.{List, []}
-use Prim.Native.Nat.{ℕ, suc, ◌+◌, ◌-◌, ◌*◌, ◌/◌, ◌≤◌, ◌<◌}
+use Prim.Native.Nat.{ℕ, suc, ◌+◌, ◌-◌, ◌*◌, ◌≤◌, ◌<◌}
 use native.Mathlib.Nat.{suc-mul, mul-le-mul_right}
 use native.Mathlib.Omega.{arith}
-use borrow.Author.Tests.{eqb-true, eq-eqb, ne_eqb, lt-leb, le-leb}
-use lib.Dec.{leb}
+use borrow.Author.Tests.{eqb-true}
 use lib.ListN.{length, get_or, take, drop, length-take, length-drop}
 use Rattle.spec.specs.Slots.{first_index}
 use Rattle.spec.specs.Area.{Format, slot_count, slots, sized, slot_valid}
@@ -18,20 +17,6 @@ use Rattle.spec.proofs.Area.{sized-length}
 use Rattle.slots.proofs.Turns.{first-here, first-later, first_past}
 
 module _ (F : Format) (l : List ℕ) where
-  -- the tests of a length, at the width that the code has
-  module _ (w : ℕ) (e : w ≡ F.slot_size) where
-    pub sized-odd : (length l / w * w ≡ length l → ⊥) → sized F l ≡ false
-    unfolding sized
-    sized-odd h = rw (← e, ne_eqb (length l) (length l / w * w) (λ z. h (sym z)))
-
-    pub sized-empty : length l / w * w ≡ length l → length l / w < 1 → sized F l ≡ false
-    unfolding sized
-    sized-empty h k = rw (← e, eq-eqb (length l) (length l / w * w) (sym h), lt-leb 1 (length l / w) k)
-
-    pub sized-most : length l / w * w ≡ length l → 1 ≤ length l / w → sized F l ≡ leb (length l / w) 64
-    unfolding sized
-    sized-most h k = rw (← e, eq-eqb (length l) (length l / w * w) (sym h), le-leb 1 (length l / w) k)
-
   module _ (s : sized F l ≡ true) (i : ℕ) (h : i < slot_count F l) where
     pub slot-end : (w : ℕ) → w ≡ F.slot_size → i * w + w ≤ length l
     slot-end w e =

@@ -13,7 +13,7 @@ use Rattle.buffers.specs.Bytes.{every, all_zero}
 use Rattle.spec.specs.Name.{Name}
 use Rattle.spec.specs.Slots.{join_slots, first_index, in_order, sorted_by}
 use Rattle.spec.specs.Area.{Format, state_byte, slot_free, slot_used, slot_valid, slot_holder, slot_count, slots, sized, intact, has_space}
-use Rattle.buffers.proofs.Split.{split, clash, both}
+use Rattle.buffers.proofs.Split.{split, clash}
 use Rattle.buffers.proofs.Lists.{rest_part}
 use Rattle.spec.proofs.Chunks.{slots_length, slot-at}
 use Rattle.spec.proofs.First.{any-first, first-lowest}
@@ -93,9 +93,6 @@ module _ (F : Format) (l : List ℕ) where
     chain-turn =
         let n : suc (i - 1) ≡ i = omega arith in
         rw (e, n, drop-cons (slots F l) i [] (rw (slots_length F l) h))
-
-    pub turn-well : r ≡ true → slot_valid F (slot_at F l i) ≡ true
-    turn-well t = (both (slot_valid F (slot_at F l i)) (in_order (slot_holder F (slot_at F l (i - 1))) (slot_holder F (slot_at F l i))) (sym e ∙ t)).0
 
   -- the same where the slot has no state: what is left, as the code has it, is zero
   module _ (s : sized F l ≡ true) (i : ℕ) (z : 0 < i) (h : i < slot_count F l) (w : ℕ) (e : w ≡ F.slot_size) (p : 0 < w) where

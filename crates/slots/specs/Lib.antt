@@ -1,2 +1,3 @@
 pub mod Kind
 pub mod Found
+pub mod Holder

@@ -6,53 +6,35 @@ ghost use Rattle.spec.specs.Slots.{first_index};
 ghost use Rattle.spec.specs.Area.{kv_format, payload_size, slot_free, slot_used, slot_valid, slot_name, make_slot, slot_count, slots, sized, intact, has_space};
 ghost use Rattle.spec.specs.Calls.{slot_has_prefix, next_match};
 ghost use Rattle.slots.specs.Kind.{format_of};
-ghost use Rattle.slots.specs.Found.{slot_for, found_in, slot_at, may_follow, CanRead, CanInsert, payload, payload_at, insert_end, insert_at, erase_at};
+ghost use Rattle.slots.specs.Found.{slot_for, found_in, slot_at, CanRead, CanInsert, payload, payload_at, insert_end, insert_at, erase_at};
 
-use crate::{AreaKind, slot};
+use crate::AreaKind;
+use crate::slot::{self, Slot};
 use buffers::{compare, parts};
 
 pub fn slot_count(kind: AreaKind, area: &[u8]) -> usize
     ensures { result ≡ slot_count (format_of kind) area.now }
 {
-    area.len() / slot::slot_size(kind)
+    area.len() / kind.slot_size()
 }
 
 // 01: "1 to 64 places", and no byte besides
 pub fn area_sized(kind: AreaKind, area: &[u8]) -> bool
     ensures { result ≡ sized (format_of kind) area.now }
 {
-    let w = slot::slot_size(kind);
+    let w = kind.slot_size();
     let k = area.len() / w;
-    if k * w != area.len() {
-        return false;
-    }
-    if k < 1 {
-        return false;
-    }
-    k <= 64
+    area.len() == k * w && 1 <= k && k <= 64
 }
 
 fn slot_at<'a>(kind: AreaKind, area: &'a [u8], i: usize) -> &'a [u8]
     requires { (sized (format_of kind) area.now ≡ true) × (i < slot_count (format_of kind) area.now) }
     ensures { result.now ≡ get_or (slots (format_of kind) area.now) i [] }
 {
-    let w = slot::slot_size(kind);
+    let w = kind.slot_size();
     let at = i * w;
     let end = at + w;
     &area[at..end]
-}
-
-// Whether a slot is well shaped, and may stand behind the one before it.
-fn slot_follows(kind: AreaKind, area: &[u8], i: usize) -> bool
-    requires area_value { (sized (format_of kind) area.now ≡ true) × (i < slot_count (format_of kind) area.now) }
-    requires i_nonzero { (0 < i) × (slot_valid (format_of kind) (slot_at (format_of kind) area.now (i - 1)) ≡ true) }
-    ensures { result ≡ may_follow (format_of kind) (slot_at (format_of kind) area.now (i - 1)) (slot_at (format_of kind) area.now i) }
-{
-    let s = slot_at(kind, area, i);
-    if !slot::slot_valid(kind, s) {
-        return false;
-    }
-    slot::slots_in_order(kind, slot_at(kind, area, i - 1), s)
 }
 
 // 01: no "damage", and 02, No. 7: "any other order is damage". Neighbours in order are all in order. Behind a free slot every slot is free: from the first
@@ -61,99 +43,171 @@ pub fn area_intact(kind: AreaKind, area: &[u8]) -> bool
     requires { sized (format_of kind) area.now ≡ true }
     ensures { result ≡ intact (format_of kind) area.now }
 {
-    let k = slot_count(kind, area);
-    let w = slot::slot_size(kind);
-    if !slot::slot_valid(kind, slot_at(kind, area, 0)) {
+    let w = kind.slot_size();
+    let Some(mut before) = Slot::checked(kind, slot_at(kind, area, 0)) else {
         return false;
-    }
-    let mut i = 1;
-    while i < k {
+    };
+    for i in 1..slot_count(kind, area) {
         let at = i * w;
         if area[at] == 0 {
             return compare::all_zero(&area[at..]);
         }
-        if !slot_follows(kind, area, i) {
+        let Some(slot) = Slot::checked(kind, slot_at(kind, area, i)) else {
+            return false;
+        };
+        if !before.may_precede(&slot) {
             return false;
         }
-        i += 1;
+        before = slot;
     }
     true
 }
 
-// The first free slot, or the count of slots, by binary search: the used ones stand at the front.
-fn first_free(kind: AreaKind, area: &[u8]) -> usize
-    requires { (sized (format_of kind) area.now ≡ true) × (intact (format_of kind) area.now ≡ true) }
-    ensures { result ≡ first_index slot_free (slots (format_of kind) area.now) }
-{
-    let mut low = 0;
-    let mut high = slot_count(kind, area);
-    while low < high {
-        let mid = (low + high) / 2;
-        let s = slot_at(kind, area, mid);
-        if s[0] == 0 {
-            high = mid;
-        } else {
-            low = mid + 1;
-        }
-    }
-    low
-}
-
-// The first slot that does not stand before the name, or the count of slots, by binary search.
-fn slot_for(kind: AreaKind, area: &[u8], name: &[u8]) -> usize
-    requires { (sized (format_of kind) area.now ≡ true) × (intact (format_of kind) area.now ≡ true) }
-    ensures { result ≡ slot_for (format_of kind) area.now name.now }
-{
-    let mut low = 0;
-    let mut high = slot_count(kind, area);
-    while low < high {
-        let mid = (low + high) / 2;
-        if slot::slot_precedes(kind, slot_at(kind, area, mid), name) {
-            low = mid + 1;
-        } else {
-            high = mid;
-        }
-    }
-    low
-}
-
-// The last slot tells: the used ones stand at the front.
-pub fn has_space(kind: AreaKind, area: &[u8]) -> bool
-    requires { (sized (format_of kind) area.now ≡ true) × (intact (format_of kind) area.now ≡ true) }
-    ensures { result ≡ has_space (format_of kind) area.now }
-{
-    let s = slot_at(kind, area, slot_count(kind, area) - 1);
-    s[0] == 0
-}
-
 // Where a name's slot is: its own, or, where the area does not hold the name, the one that it would take; the count of slots, where that is behind all.
-#[derive(Clone, Copy)]
+// No `Result` as of std's searches: the place is needed whichever it is, and each definition would match to take the same number out of both.
+#[derive(Clone, Copy, PartialEq, Eq, Debug)]
 pub struct Found {
     pub at: usize,
     pub held: bool,
 }
 
-pub fn find(kind: AreaKind, area: &[u8], name: &[u8]) -> Found
-    requires { (sized (format_of kind) area.now ≡ true) × (intact (format_of kind) area.now ≡ true) }
-    ensures { result ≡ found_in (format_of kind) area.now name.now }
-{
-    let at = slot_for(kind, area, name);
-    if at < slot_count(kind, area) {
-        let held = slot::slot_holds(kind, slot_at(kind, area, at), name);
-        return Found { at, held };
-    }
-    Found { at, held: false }
+// An area of right length without damage.
+#[derive(Clone, Copy)]
+pub struct Area<'a> {
+    pub kind: AreaKind,
+    pub bytes: &'a [u8],
+    ghost sound: { (sized (format_of kind) bytes.now ≡ true) × (intact (format_of kind) bytes.now ≡ true) },
 }
 
-// What the slot that was found holds for the name; nothing, where the name is not held.
-pub fn payload_at<'a>(kind: AreaKind, area: &'a [u8], found: Found) -> &'a [u8]
-    requires { (sized (format_of kind) area.now ≡ true) × (CanRead (format_of kind) area.now found) }
-    ensures { result.now ≡ payload_at (format_of kind) area.now found }
-{
-    if found.held {
-        slot::slot_payload(kind, slot_at(kind, area, found.at))
-    } else {
-        &area[0..0]
+impl<'a> Area<'a> {
+    pub fn checked(kind: AreaKind, bytes: &'a [u8]) -> Option<Area<'a>>
+        ensures some { is_some result ≡ (sized (format_of kind) bytes.now && intact (format_of kind) bytes.now) }
+        ensures parts { IfSome result (λ area. (area.kind ≡ kind) × (area.bytes.now ≡ bytes.now)) }
+    {
+        if area_sized(kind, bytes) && area_intact(kind, bytes) {
+            Some(Area { kind, bytes })
+        } else {
+            None
+        }
+    }
+
+    pub fn slot_count(&self) -> usize
+        ensures { result ≡ slot_count (format_of self.now.kind) self.now.bytes.now }
+    {
+        slot_count(self.kind, self.bytes)
+    }
+
+    fn slot(&self, i: usize) -> Slot<'a>
+        requires { i < slot_count (format_of self.now.kind) self.now.bytes.now }
+        ensures kind { result.kind ≡ self.now.kind }
+        ensures bytes { result.bytes.now ≡ slot_at (format_of self.now.kind) self.now.bytes.now i }
+    {
+        Slot {
+            kind: self.kind,
+            bytes: slot_at(self.kind, self.bytes, i),
+        }
+    }
+
+    // The first free slot, or the count of slots, by binary search: the used ones stand at the front.
+    fn first_free(&self) -> usize
+        ensures { result ≡ first_index slot_free (slots (format_of self.now.kind) self.now.bytes.now) }
+    {
+        let mut low = 0;
+        let mut high = self.slot_count();
+        while low < high {
+            let mid = (low + high) / 2;
+            if self.slot(mid).is_free() {
+                high = mid;
+            } else {
+                low = mid + 1;
+            }
+        }
+        low
+    }
+
+    // The first slot that does not stand before the name, or the count of slots, by binary search.
+    fn slot_for(&self, name: &[u8]) -> usize
+        ensures { result ≡ slot_for (format_of self.now.kind) self.now.bytes.now name.now }
+    {
+        let mut low = 0;
+        let mut high = self.slot_count();
+        while low < high {
+            let mid = (low + high) / 2;
+            if self.slot(mid).precedes(name) {
+                low = mid + 1;
+            } else {
+                high = mid;
+            }
+        }
+        low
+    }
+
+    // The last slot tells: the used ones stand at the front.
+    pub fn has_space(&self) -> bool
+        ensures { result ≡ has_space (format_of self.now.kind) self.now.bytes.now }
+    {
+        self.slot(self.slot_count() - 1).is_free()
+    }
+
+    pub fn find(&self, name: &[u8]) -> Found
+        ensures { result ≡ found_in (format_of self.now.kind) self.now.bytes.now name.now }
+    {
+        let at = self.slot_for(name);
+        let held = at < self.slot_count() && self.slot(at).holds(name);
+        Found { at, held }
+    }
+
+    // What the slot that was found holds for the name.
+    pub fn payload(&self, found: Found) -> Option<&'a [u8]>
+        requires { CanRead (format_of self.now.kind) self.now.bytes.now found }
+        ensures { option_copied result ≡ payload (format_of self.now.kind) self.now.bytes.now found }
+    {
+        if found.held {
+            Some(self.slot(found.at).payload())
+        } else {
+            None
+        }
+    }
+
+    // The name of a slot in use.
+    pub fn name_at(&self, i: usize) -> &'a [u8]
+        requires { (i < slot_count (format_of self.now.kind) self.now.bytes.now) × (slot_used (format_of self.now.kind) (slot_at (format_of self.now.kind) self.now.bytes.now i) ≡ true) }
+        ensures { result.now ≡ slot_name (format_of self.now.kind) (slot_at (format_of self.now.kind) self.now.bytes.now i) }
+    {
+        self.slot(i).name()
+    }
+
+    // Whether a slot of the card is used by a name with the prefix.
+    pub fn prefix_at(&self, prefix: &[u8], i: usize) -> bool
+        requires { (self.now.kind ≡ AreaKind.Kv) × (i < slot_count kv_format self.now.bytes.now) }
+        ensures { result ≡ slot_has_prefix prefix.now (slot_at kv_format self.now.bytes.now i) }
+    {
+        self.slot(i).has_prefix(prefix)
+    }
+
+    // 01: the next slot of a "walk", which goes over the card
+    pub fn next_match(&self, prefix: &[u8], start: usize) -> usize
+        requires { self.now.kind ≡ AreaKind.Kv }
+        ensures { result ≡ next_match self.now.bytes.now prefix.now start }
+    {
+        let k = self.slot_count();
+        for i in start..k {
+            if self.prefix_at(prefix, i) {
+                return i;
+            }
+        }
+        start.max(k)
+    }
+
+    // The slot behind the last that an insert writes: the name's own, or the first free one.
+    fn insert_end(&self, found: Found) -> usize
+        requires { CanInsert (format_of self.now.kind) self.now.bytes.now found }
+        ensures { result ≡ insert_end (format_of self.now.kind) self.now.bytes.now found }
+    {
+        if found.held {
+            return found.at + 1;
+        }
+        self.first_free() + 1
     }
 }
 
@@ -186,7 +240,7 @@ fn put_first(kind: AreaKind, part: &mut [u8], name: &[u8], payload: &[u8])
     ensures { part.new ≡ make_slot (format_of kind) name.now payload.now ++ take (length part.old - (format_of kind).slot_size) part.old }
 {
     move_on(kind, part);
-    let w = slot::slot_size(kind);
+    let w = kind.slot_size();
     slot::make_slot(kind, &mut part[0..w], name, payload);
 }
 
@@ -197,19 +251,8 @@ fn take_first(kind: AreaKind, part: &mut [u8])
 {
     move_back(kind, part);
     let end = part.len();
-    let last = end - slot::slot_size(kind);
+    let last = end - kind.slot_size();
     parts::clear(&mut part[last..end]);
-}
-
-// The slot behind the last that an insert writes: the name's own, or the first free one.
-fn insert_end(kind: AreaKind, area: &[u8], found: Found) -> usize
-    requires { (sized (format_of kind) area.now ≡ true) × (intact (format_of kind) area.now ≡ true) × (CanInsert (format_of kind) area.now found) }
-    ensures { result ≡ insert_end (format_of kind) area.now found }
-{
-    if found.held {
-        return found.at + 1;
-    }
-    first_free(kind, area) + 1
 }
 
 // 02, No. 7: "A set inserts". The used slots from there on move as one block, over the first free one.
@@ -218,9 +261,9 @@ pub fn insert_at(kind: AreaKind, area: &mut [u8], found: Found, name: &[u8], pay
     requires name_len_bound { (length name.now ≤ 64) × (length payload.now ≤ payload_size (format_of kind)) }
     ensures { area.new ≡ insert_at (format_of kind) area.old found name.now payload.now }
 {
-    let w = slot::slot_size(kind);
+    let w = kind.slot_size();
     let start = found.at * w;
-    let end = insert_end(kind, area, found) * w;
+    let end = Area { kind, bytes: area }.insert_end(found) * w;
     put_first(kind, &mut area[start..end], name, payload);
 }
 
@@ -230,115 +273,66 @@ pub fn erase_at(kind: AreaKind, area: &mut [u8], found: Found)
     requires held_value { (found.held ≡ true) × (CanRead (format_of kind) area.old found) }
     ensures { area.new ≡ erase_at (format_of kind) area.old found }
 {
-    let w = slot::slot_size(kind);
+    let w = kind.slot_size();
     let start = found.at * w;
-    let end = first_free(kind, area) * w;
+    let end = Area { kind, bytes: area }.first_free() * w;
     take_first(kind, &mut area[start..end]);
 }
 
-// Whether a slot is used by a name with the prefix.
+// ---- the same for callers that have kind and bytes apart
+
+pub fn has_space(kind: AreaKind, area: &[u8]) -> bool
+    requires { (sized (format_of kind) area.now ≡ true) × (intact (format_of kind) area.now ≡ true) }
+    ensures { result ≡ has_space (format_of kind) area.now }
+{
+    Area { kind, bytes: area }.has_space()
+}
+
+pub fn find(kind: AreaKind, area: &[u8], name: &[u8]) -> Found
+    requires { (sized (format_of kind) area.now ≡ true) × (intact (format_of kind) area.now ≡ true) }
+    ensures { result ≡ found_in (format_of kind) area.now name.now }
+{
+    Area { kind, bytes: area }.find(name)
+}
+
 pub fn prefix_at(kv: &[u8], prefix: &[u8], i: usize) -> bool
     requires { (sized kv_format kv.now ≡ true) × (intact kv_format kv.now ≡ true) × (i < slot_count kv_format kv.now) }
     ensures { result ≡ slot_has_prefix prefix.now (slot_at kv_format kv.now i) }
 {
-    slot::slot_has_prefix(slot_at(AreaKind::Kv, kv, i), prefix)
+    Area {
+        kind: AreaKind::Kv,
+        bytes: kv,
+    }
+    .prefix_at(prefix, i)
 }
 
-// 01: the next slot of a "walk"
 pub fn next_match(kv: &[u8], prefix: &[u8], start: usize) -> usize
     requires { (sized kv_format kv.now ≡ true) × (intact kv_format kv.now ≡ true) }
     ensures { result ≡ next_match kv.now prefix.now start }
 {
-    let k = slot_count(AreaKind::Kv, kv);
-    let mut i = start;
-    while i < k {
-        if slot::slot_has_prefix(slot_at(AreaKind::Kv, kv, i), prefix) {
-            return i;
-        }
-        i += 1;
+    Area {
+        kind: AreaKind::Kv,
+        bytes: kv,
     }
-    i
+    .next_match(prefix, start)
 }
 
-// The name of a slot in use, whatever the rest of the area is.
+pub fn payload_at<'a>(kind: AreaKind, area: &'a [u8], found: Found) -> &'a [u8]
+    requires { (sized (format_of kind) area.now ≡ true) × (CanRead (format_of kind) area.now found) }
+    ensures { result.now ≡ payload_at (format_of kind) area.now found }
+{
+    if found.held {
+        let bytes = slot_at(kind, area, found.at);
+        Slot { kind, bytes }.payload()
+    } else {
+        &area[0..0]
+    }
+}
+
 pub fn name_at<'a>(kind: AreaKind, area: &'a [u8], i: usize) -> &'a [u8]
     requires { (sized (format_of kind) area.now ≡ true) × (i < slot_count (format_of kind) area.now) × (slot_used (format_of kind) (slot_at (format_of kind) area.now i) ≡ true) }
     ensures { result.now ≡ slot_name (format_of kind) (slot_at (format_of kind) area.now i) }
 {
-    slot::slot_name(kind, slot_at(kind, area, i))
-}
-
-// An area of right length without damage, as long as it is lent.
-#[derive(Clone, Copy)]
-pub struct Area<'a> {
-    pub kind: AreaKind,
-    pub bytes: &'a [u8],
-    ghost sound: { (sized (format_of kind) bytes.now ≡ true) × (intact (format_of kind) bytes.now ≡ true) },
-}
-
-impl<'a> Area<'a> {
-    pub fn checked(kind: AreaKind, bytes: &'a [u8]) -> Option<Area<'a>>
-        ensures some { is_some result ≡ (sized (format_of kind) bytes.now && intact (format_of kind) bytes.now) }
-        ensures parts { IfSome result (λ area. (area.kind ≡ kind) × (area.bytes.now ≡ bytes.now)) }
-    {
-        if area_sized(kind, bytes) && area_intact(kind, bytes) {
-            Some(Area { kind, bytes })
-        } else {
-            None
-        }
-    }
-
-    pub fn slot_count(&self) -> usize
-        ensures { result ≡ slot_count (format_of self.now.kind) self.now.bytes.now }
-    {
-        slot_count(self.kind, self.bytes)
-    }
-
-    pub fn has_space(&self) -> bool
-        ensures { result ≡ has_space (format_of self.now.kind) self.now.bytes.now }
-    {
-        has_space(self.kind, self.bytes)
-    }
-
-    pub fn find(&self, name: &[u8]) -> Found
-        ensures { result ≡ found_in (format_of self.now.kind) self.now.bytes.now name.now }
-    {
-        find(self.kind, self.bytes, name)
-    }
-
-    // What the slot that was found holds for the name.
-    pub fn payload(&self, found: Found) -> Option<&'a [u8]>
-        requires { CanRead (format_of self.now.kind) self.now.bytes.now found }
-        ensures { option_copied result ≡ payload (format_of self.now.kind) self.now.bytes.now found }
-    {
-        if found.held {
-            Some(payload_at(self.kind, self.bytes, found))
-        } else {
-            None
-        }
-    }
-
-    // The name of a slot in use.
-    pub fn name_at(&self, i: usize) -> &'a [u8]
-        requires { (i < slot_count (format_of self.now.kind) self.now.bytes.now) × (slot_used (format_of self.now.kind) (slot_at (format_of self.now.kind) self.now.bytes.now i) ≡ true) }
-        ensures { result.now ≡ slot_name (format_of self.now.kind) (slot_at (format_of self.now.kind) self.now.bytes.now i) }
-    {
-        name_at(self.kind, self.bytes, i)
-    }
-
-    // Whether a slot of the card is used by a name with the prefix.
-    pub fn prefix_at(&self, prefix: &[u8], i: usize) -> bool
-        requires { (self.now.kind ≡ AreaKind.Kv) × (i < slot_count kv_format self.now.bytes.now) }
-        ensures { result ≡ slot_has_prefix prefix.now (slot_at kv_format self.now.bytes.now i) }
-    {
-        prefix_at(self.bytes, prefix, i)
-    }
-
-    // 01: the next slot of a "walk", which goes over the card
-    pub fn next_match(&self, prefix: &[u8], start: usize) -> usize
-        requires { self.now.kind ≡ AreaKind.Kv }
-        ensures { result ≡ next_match self.now.bytes.now prefix.now start }
-    {
-        next_match(self.bytes, prefix, start)
-    }
+    let bytes = slot_at(kind, area, i);
+    Slot { kind, bytes }.name()
 }

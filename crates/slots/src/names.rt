@@ -1,50 +1,35 @@
 // Tests on names.
-ghost use Rattle.std.specs.Prelude.{◌≡◌, cond};
+ghost use Rattle.std.specs.Prelude.{◌≡◌};
 ghost use Rattle.buffers.specs.Bytes.{every};
 ghost use Rattle.spec.specs.Name.{valid_name_byte, valid_name, valid_prefix};
 
-// 0 for a byte that a name may hold, 1 for another.
-fn name_byte_fault(b: u8) -> u8
-    ensures { result ≡ cond (valid_name_byte b) 0 1 }
+fn valid_name_byte(b: u8) -> bool
+    ensures { result ≡ valid_name_byte b }
 {
-    if b < 0x20 {
-        return 1;
-    }
-    if b == 0x7f {
-        return 1;
-    }
-    0
+    0x20 <= b && b != 0x7f
 }
 
-// An or over all bytes with one test after it: such a loop is vectorised.
+// An and over all bytes with one test after it: such a loop is vectorised, and one that stops at the first bad byte is not.
 fn valid_name_bytes(s: &[u8]) -> bool
     ensures { result ≡ every valid_name_byte s.now }
 {
-    let mut faults: u8 = 0;
-    let mut i = 0;
-    while i < s.len() {
-        faults = faults | name_byte_fault(s[i]);
-        i += 1;
+    let mut valid = true;
+    for b in s {
+        valid &= valid_name_byte(*b);
     }
-    faults == 0
+    valid
 }
 
 // 01: "good name"
 pub fn valid_name(name: &[u8]) -> bool
     ensures { result ≡ valid_name name.now }
 {
-    if name.len() < 1 {
-        return false;
-    }
-    valid_prefix(name)
+    !name.is_empty() && valid_prefix(name)
 }
 
 // 01: the prefix of a "walk"
 pub fn valid_prefix(p: &[u8]) -> bool
     ensures { result ≡ valid_prefix p.now }
 {
-    if 64 < p.len() {
-        return false;
-    }
-    valid_name_bytes(p)
+    p.len() <= 64 && valid_name_bytes(p)
 }

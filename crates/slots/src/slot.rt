@@ -1,40 +1,15 @@
-// One slot: where its parts stand, whether it is well shaped, who uses it, what it may stand in front of, and how it is written.
-ghost use Rattle.std.specs.Prelude.{◌≡◌, true, ◌++◌, ◌≤◌, length, drop};
+// One slot: whether it is well shaped, who uses it, what it may stand in front of, and how it is written.
+ghost use Rattle.std.specs.Prelude.{◌≡◌, true, ◌++◌, ◌≤◌, length, drop, IfSome};
+ghost use Rattle.std.specs.Option.{is_some};
 ghost use Rattle.std.proofs.Math.Option.{some};
 ghost use Rattle.spec.specs.Slots.{in_order};
-ghost use Rattle.spec.specs.Area.{payload_size, slot_holder, slot_name, slot_payload, slot_used, slot_valid, holds, make_slot};
-ghost use Rattle.spec.specs.Calls.{has_prefix, slot_has_prefix};
+ghost use Rattle.spec.specs.Area.{payload_size, slot_free, slot_holder, slot_name, slot_payload, slot_used, slot_valid, holds, make_slot};
+ghost use Rattle.spec.specs.Calls.{has_prefix, name_has_prefix};
 ghost use Rattle.slots.specs.Kind.{format_of};
+ghost use Rattle.slots.specs.Holder.{lent};
 
 use crate::{AreaKind, names};
 use buffers::{compare, numbers, parts};
-
-pub(crate) fn slot_size(kind: AreaKind) -> usize
-    ensures { result ≡ (format_of kind).slot_size }
-{
-    match kind {
-        AreaKind::Kv => 584,
-        AreaKind::Rbp => 82,
-    }
-}
-
-pub(crate) fn name_offset(kind: AreaKind) -> usize
-    ensures { result ≡ (format_of kind).name_offset }
-{
-    match kind {
-        AreaKind::Kv => 4,
-        AreaKind::Rbp => 2,
-    }
-}
-
-pub(crate) fn payload_offset(kind: AreaKind) -> usize
-    ensures { result ≡ (format_of kind).payload_offset }
-{
-    match kind {
-        AreaKind::Kv => 68,
-        AreaKind::Rbp => 66,
-    }
-}
 
 // How many bytes a slot says that it holds, which may be more than it can.
 fn payload_len(kind: AreaKind, slot: &[u8]) -> usize
@@ -59,12 +34,12 @@ fn slot_used(kind: AreaKind, slot: &[u8]) -> bool
     if 64 < n {
         return false;
     }
-    let at = name_offset(kind);
+    let at = kind.name_offset();
     let after = at + n;
     if !names::valid_name(&slot[at..after]) {
         return false;
     }
-    let payload = payload_offset(kind);
+    let payload = kind.payload_offset();
     let m = payload_len(kind, slot);
     if slot.len() - payload < m {
         return false;
@@ -88,57 +63,101 @@ pub fn slot_valid(kind: AreaKind, slot: &[u8]) -> bool
     }
 }
 
-pub(crate) fn slot_name<'a>(kind: AreaKind, slot: &'a [u8]) -> &'a [u8]
-    requires { (length slot.now ≡ (format_of kind).slot_size) × (slot_used (format_of kind) slot.now ≡ true) }
-    ensures { result.now ≡ slot_name (format_of kind) slot.now }
-{
-    let n = slot[1] as usize;
-    let at = name_offset(kind);
-    let end = at + n;
-    &slot[at..end]
+// A slot that is well shaped.
+#[derive(Clone, Copy)]
+pub(crate) struct Slot<'a> {
+    pub kind: AreaKind,
+    pub bytes: &'a [u8],
+    ghost shaped: { (length bytes.now ≡ (format_of kind).slot_size) × (slot_valid (format_of kind) bytes.now ≡ true) },
 }
 
-pub(crate) fn slot_payload<'a>(kind: AreaKind, slot: &'a [u8]) -> &'a [u8]
-    requires { (length slot.now ≡ (format_of kind).slot_size) × (slot_used (format_of kind) slot.now ≡ true) }
-    ensures { result.now ≡ slot_payload (format_of kind) slot.now }
-{
-    let m = payload_len(kind, slot);
-    let at = payload_offset(kind);
-    let end = at + m;
-    &slot[at..end]
-}
-
-pub(crate) fn slot_holds(kind: AreaKind, slot: &[u8], name: &[u8]) -> bool
-    requires { (length slot.now ≡ (format_of kind).slot_size) × (slot_valid (format_of kind) slot.now ≡ true) }
-    ensures { result ≡ holds (format_of kind) name.now slot.now }
-{
-    if slot[0] == 0 {
-        return false;
+impl<'a> Slot<'a> {
+    pub fn checked(kind: AreaKind, bytes: &'a [u8]) -> Option<Slot<'a>>
+        requires { length bytes.now ≡ (format_of kind).slot_size }
+        ensures some { is_some result ≡ slot_valid (format_of kind) bytes.now }
+        ensures parts { IfSome result (λ slot. (slot.kind ≡ kind) × (slot.bytes.now ≡ bytes.now)) }
+    {
+        if slot_valid(kind, bytes) {
+            Some(Slot { kind, bytes })
+        } else {
+            None
+        }
     }
-    compare::bytes_equal(name, slot_name(kind, slot))
-}
 
-// Whether a slot stands before a name: in byte order, a free one behind all.
-pub(crate) fn slot_precedes(kind: AreaKind, slot: &[u8], name: &[u8]) -> bool
-    requires { (length slot.now ≡ (format_of kind).slot_size) × (slot_valid (format_of kind) slot.now ≡ true) }
-    ensures { result ≡ in_order (slot_holder (format_of kind) slot.now) (some name.now) }
-{
-    if slot[0] == 0 {
-        return false;
+    pub fn is_free(&self) -> bool
+        ensures { result ≡ slot_free self.now.bytes.now }
+    {
+        self.bytes[0] == 0
     }
-    compare::precedes(slot_name(kind, slot), name)
-}
 
-// 02, No. 7: whether one slot may stand in front of another.
-pub(crate) fn slots_in_order(kind: AreaKind, slot: &[u8], next: &[u8]) -> bool
-    requires slot_len { (length slot.now ≡ (format_of kind).slot_size) × (slot_valid (format_of kind) slot.now ≡ true) }
-    requires next_len { (length next.now ≡ (format_of kind).slot_size) × (slot_valid (format_of kind) next.now ≡ true) }
-    ensures { result ≡ in_order (slot_holder (format_of kind) slot.now) (slot_holder (format_of kind) next.now) }
-{
-    if next[0] == 0 {
-        return true;
+    pub fn name(&self) -> &'a [u8]
+        requires { slot_used (format_of self.now.kind) self.now.bytes.now ≡ true }
+        ensures { result.now ≡ slot_name (format_of self.now.kind) self.now.bytes.now }
+    {
+        let n = self.bytes[1] as usize;
+        let at = self.kind.name_offset();
+        let end = at + n;
+        &self.bytes[at..end]
     }
-    slot_precedes(kind, slot, slot_name(kind, next))
+
+    pub fn payload(&self) -> &'a [u8]
+        requires { slot_used (format_of self.now.kind) self.now.bytes.now ≡ true }
+        ensures { result.now ≡ slot_payload (format_of self.now.kind) self.now.bytes.now }
+    {
+        let m = payload_len(self.kind, self.bytes);
+        let at = self.kind.payload_offset();
+        let end = at + m;
+        &self.bytes[at..end]
+    }
+
+    // The name that uses it.
+    fn holder(&self) -> Option<&'a [u8]>
+        ensures { lent result ≡ slot_holder (format_of self.now.kind) self.now.bytes.now }
+    {
+        if self.is_free() {
+            None
+        } else {
+            Some(self.name())
+        }
+    }
+
+    pub fn holds(&self, name: &[u8]) -> bool
+        ensures { result ≡ holds (format_of self.now.kind) name.now self.now.bytes.now }
+    {
+        match self.holder() {
+            Some(held) => compare::bytes_equal(name, held),
+            None => false,
+        }
+    }
+
+    // Whether it stands before a name: in byte order, a free one behind all.
+    pub fn precedes(&self, name: &[u8]) -> bool
+        ensures { result ≡ in_order (slot_holder (format_of self.now.kind) self.now.bytes.now) (some name.now) }
+    {
+        match self.holder() {
+            Some(held) => compare::precedes(held, name),
+            None => false,
+        }
+    }
+
+    // 02, No. 7: whether it may stand in front of another.
+    pub fn may_precede(&self, next: &Slot) -> bool
+        ensures { result ≡ in_order (slot_holder (format_of self.now.kind) self.now.bytes.now) (slot_holder (format_of next.now.kind) next.now.bytes.now) }
+    {
+        match next.holder() {
+            Some(name) => self.precedes(name),
+            None => true,
+        }
+    }
+
+    pub fn has_prefix(&self, prefix: &[u8]) -> bool
+        ensures { result ≡ name_has_prefix prefix.now (slot_holder (format_of self.now.kind) self.now.bytes.now) }
+    {
+        match self.holder() {
+            Some(name) => has_prefix(name, prefix),
+            None => false,
+        }
+    }
 }
 
 pub fn has_prefix(name: &[u8], prefix: &[u8]) -> bool
@@ -149,16 +168,6 @@ pub fn has_prefix(name: &[u8], prefix: &[u8]) -> bool
         return false;
     }
     compare::bytes_equal(prefix, &name[0..n])
-}
-
-pub(crate) fn slot_has_prefix(slot: &[u8], prefix: &[u8]) -> bool
-    requires { (length slot.now ≡ (format_of AreaKind.Kv).slot_size) × (slot_valid (format_of AreaKind.Kv) slot.now ≡ true) }
-    ensures { result ≡ slot_has_prefix prefix.now slot.now }
-{
-    if slot[0] == 0 {
-        return false;
-    }
-    has_prefix(slot_name(AreaKind::Kv, slot), prefix)
 }
 
 fn put_header(kind: AreaKind, slot: &mut [u8], name: &[u8], payload: &[u8])
@@ -180,6 +189,6 @@ pub(crate) fn make_slot(kind: AreaKind, slot: &mut [u8], name: &[u8], payload: &
 {
     parts::clear(slot);
     put_header(kind, slot, name, payload);
-    parts::paste(slot, name_offset(kind), name);
-    parts::paste(slot, payload_offset(kind), payload);
+    parts::paste(slot, kind.name_offset(), name);
+    parts::paste(slot, kind.payload_offset(), payload);
 }

@@ -1,20 +1,13 @@
--- `slots::areas::name_at`: the name that the slot has.
+-- `slots::areas::name_at`: a used slot is well shaped.
 use mathlib.Core.Path.{ap, ◌∙◌}
-use Rattle.spec.specs.Area.{slot_used, slot_name}
+use Rattle.spec.specs.Area.{slot_used}
 use Rattle.slots.specs.Kind.{format_of}
 use Rattle.slots.proofs.AreaLaws.{slot-sized}
+use Rattle.slots.proofs.SlotLaws.{used-valid}
 use Rattle.slots.proofs.areas.name_at.Goals as goal
 
-pub slot_name-requires : goal.slot_name-requires
-slot_name-requires c =
-    let args = c.args in
-    let pre = c.requires in
-    let F = format_of args.kind in
-    let x = c.slot_at.result.now in
-    let e = c.slot_at.ensures in
-    (slot-sized F args.area.now pre.0 args.i pre.1 x e, ap (slot_used F) e ∙ pre.2)
-
-pub returns : goal.returns
-returns c =
-    let args = c.args in
-    c.slot_name.ensures ∙ ap (slot_name (format_of args.kind)) c.slot_at.ensures
+pub invariant_of-name : goal.invariant_of-name
+invariant_of-name c =
+    let F = format_of c.args.kind in
+    let x = c.slot_at-bytes in
+    record { shaped = (slot-sized F c.args.area.now c.requires.0 c.args.i c.requires.1 x.result.now x.ensures, used-valid F x.result.now (ap (slot_used F) x.ensures ∙ c.requires.2)) }

@@ -1,17 +1,13 @@
 -- `slots::names::valid_name`: a name that is not empty, and could be a prefix.
-use borrow.Author.Tests.{lt-leb, le-leb}
-use lib.ListN.{length}
+use native.Mathlib.Omega.{arith}
+use Rattle.std.proofs.lemmas.Bool.Decides.{nat_tests}
 use Rattle.spec.specs.Name.{valid_name, valid_prefix}
 use Rattle.slots.proofs.names.valid_name.Goals as goal
 
-pub returns-then-name-lt1 : goal.returns-then-name-lt1
-unfolding valid_name
-returns-then-name-lt1 c =
-    let args = c.args in
-    rw (lt-leb 1 (length args.name.now) c.if-name-lt1.true)
-
-pub returns : goal.returns
+pub returns-then-not-is_empty : goal.returns-then-not-is_empty
 unfolding valid_name valid_prefix
-returns c =
-    let args = c.args in
-    rw (le-leb 1 (length args.name.now) c.if-name-lt1.false) c.valid_prefix.ensures
+returns-then-not-is_empty c = grind (arith, nat_tests)
+
+pub returns-else-not-is_empty : goal.returns-else-not-is_empty
+unfolding valid_name
+returns-else-not-is_empty c = grind (arith, nat_tests)

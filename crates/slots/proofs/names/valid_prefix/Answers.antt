@@ -4,14 +4,10 @@ use lib.ListN.{length}
 use Rattle.spec.specs.Name.{valid_prefix}
 use Rattle.slots.proofs.names.valid_prefix.Goals as goal
 
-pub returns-then-p-gt64 : goal.returns-then-p-gt64
+pub returns-then-p-le64 : goal.returns-then-p-le64
 unfolding valid_prefix
-returns-then-p-gt64 c =
-    let args = c.args in
-    rw (lt-leb (length args.p.now) 64 c.if-p-gt64.true)
+returns-then-p-le64 c = rw (le-leb (length c.args.p.now) 64 c.if-p-le64.true) c.valid_name_bytes.ensures
 
-pub returns : goal.returns
+pub returns-else-p-le64 : goal.returns-else-p-le64
 unfolding valid_prefix
-returns c =
-    let args = c.args in
-    rw (le-leb (length args.p.now) 64 c.if-p-gt64.false) c.valid_name_bytes.ensures
+returns-else-p-le64 c = rw (lt-leb (length c.args.p.now) 64 c.if-p-le64.false)
