@@ -5,25 +5,26 @@ use Prim.Native.Nat.{ℕ, zero, suc, ◌+◌, ◌*◌, ◌^◌, ◌≤◌, ◌<�
 use native.Mathlib.Omega.{arith}
 use lib.ListN.{length, take, drop, length-drop, take-append-drop}
 use Rattle.buffers.specs.Bytes.{le_bytes, u32_at}
-use Rattle.spec.specs.Status.{ok}
 use Rattle.spec.specs.Shapes.{AreBytes}
 use Rattle.buffers.proofs.Bytes.{le-value}
 use Rattle.buffers.proofs.LittleEndian.{number-part, number_small}
-use Rattle.keys.specs.KeyFile.{mark, key_file_header, format_key_file, attributes_of, parse_key_file}
+use Rattle.keys.specs.KeyFile.{mark, key_file_header, format_key_file, attributes_of, key_file_valid, parse_key_file, file_answer}
+use Rattle.keys.specs.Reader.{Taken, read_material}
 use Rattle.keys.specs.Laws.{Fits, WellFormed, WrittenFile, FileLayout, ParseExact, ReaderExact}
 use Rattle.keys.specs.declared.key_file.KeyAttributes.{KeyAttributes}
-use Rattle.keys.specs.declared.key_file.KeyFile.{KeyFile}
 use Rattle.keys.specs.declared.parse.Header.{Header}
-use Rattle.keys.proofs.Header.{header-there, header-long, header-marked, header_read, is_well_formed, parse_done, parse_refused}
+use Rattle.keys.proofs.Header.{header-there, header-long, header-marked, header_read, header-refused, is_well_formed, parse_done, parse_refused}
 use Rattle.keys.proofs.Written.{file-length}
-use Rattle.keys.proofs.Loaded.{file-valid}
+use Rattle.buffers.proofs.Split.{split}
+use Rattle.std.specs.Prelude.{Ok, IsOk}
 
 pub file-layout : FileLayout
 unfolding format_key_file key_file_header
 file-layout = record { bytes = λ a m. refl; one = refl }
 
-pub accepted-formed : (f : List ℕ) → (parse_key_file f).status ≡ ok → WellFormed f
-accepted-formed f h = is_well_formed f (file-valid f h)
+pub accepted-formed : (f : List ℕ) → IsOk (parse_key_file f) → WellFormed f
+unfolding parse_key_file
+accepted-formed f h = split (key_file_valid f) (is_well_formed f) (λ e. let z = rw e at h in absurd cc)
 
 -- ---- a written file
 
@@ -56,10 +57,10 @@ module _ (a : KeyAttributes) (m : List ℕ) where
       let s = written-size h in
       record { header = omega arith; marked = written-mark; version_0 = written_version; material_short = omega arith; whole = omega arith }
 
-  written_parsed : Fits a → length m ≤ 444 → parse_key_file (format_key_file a m) ≡ record { status = ok; attributes = a; material_len = length m }
+  written_parsed : Fits a → length m ≤ 444 → parse_key_file (format_key_file a m) ≡ Ok (record { attributes = a; material_len = length m })
   written_parsed f h =
       parse_done (format_key_file a m) (written-formed h)
-      ∙ λ i. record { status = ok; attributes = written-attributes f i; material_len = written-size h i }
+      ∙ λ i. Ok (record { attributes = written-attributes f i; material_len = written-size h i })
 
 -- ---- an accepted file
 
@@ -102,8 +103,8 @@ module _ (f : List ℕ) (b : AreBytes f) (w : WellFormed f) where
     bytes = formed;
   }
 
-formed-accepted : (f : List ℕ) → WellFormed f → (parse_key_file f).status ≡ ok
-formed-accepted f w = ap (λ (k : KeyFile). k.status) (parse_done f w)
+formed-accepted : (f : List ℕ) → WellFormed f → IsOk (parse_key_file f)
+formed-accepted f w = rw (parse_done f w)
 
 pub parse_exact : ParseExact
 parse_exact = record {
@@ -114,10 +115,17 @@ parse_exact = record {
   rules = λ f. (accepted-formed f, formed-accepted f);
   gives = written_parsed;
   refusal = parse_refused;
+  refusal_numbers = λ f n. ap file_answer (parse_refused f n);
 }
 
 pub reader-exact : ReaderExact
+unfolding read_material
 reader-exact = record {
-  condition = λ f. (λ e. (header-long f e, header-marked f e), λ h. ap (λ (x : Header). x.end) (header-there f h.0 h.1));
+  condition = λ file. (
+    λ e. (header-long file e, header-marked file e),
+    λ h. ap (λ (t : Taken Header). t.after.pos) (header-there file h.0 h.1),
+  );
   fields = header_read;
+  material = λ file e. rw (header_read file e);
+  refused = λ file n. header-refused file (λ e. n (header-long file e, header-marked file e));
 }

@@ -1,108 +1,148 @@
 -- The header read one field after the other is the header by offsets, where there is one; where there is none, the reader does not come to place 36.
 -- Assumes nothing.
-use mathlib.Core.Path.{◌≡◌, refl, sym, ap, ◌∙◌}
+use mathlib.Core.Path.{◌≡◌, refl, sym, ap, subst, ◌∙◌}
 use mathlib.Core.Bool.{Bool, true, false, ◌&&◌}
 use mathlib.Core.List.{List}
-use Prim.Native.Nat.{ℕ, zero, suc, ◌+◌, ◌*◌, ◌≤◌, ◌<◌}
+use Prim.Native.Nat.{ℕ, ◌+◌, ◌≤◌, ◌<◌}
 use native.Mathlib.Omega.{arith}
 use borrow.Author.Tests.{leb-true, le-leb, eqb-true, eq-eqb}
-use lib.ListN.{length, take}
+use lib.ListN.{length, take, drop}
+use denote.Ref.{Bor}
+use Rattle.std.specs.Prelude.{Result, Ok, Err, MatchResult}
+use Rattle.store.specs.declared.status.Refusal.{Refusal}
+use Rattle.store.specs.declared.status.Refusal.TheVariants.{InvalidKeyFile}
 use Rattle.buffers.specs.Bytes.{bytes_eq, u32_at}
-use Rattle.spec.specs.Status.{ok}
 use Rattle.buffers.proofs.Split.{split, both, clash}
 use Rattle.buffers.proofs.Bytes.{bytes_eq-eq, eq-bytes_eq}
-use Rattle.keys.specs.KeyFile.{mark, attributes_of, version_of, material_length_of, key_file_valid, refused_file, parse_key_file}
-use Rattle.keys.specs.Reader.{has_bytes, taken_at, mark_at, field_at, bytes_at, read_header}
+use Rattle.keys.specs.KeyFile.{mark, attributes_of, version_of, material_length_of, key_file_valid, parse_key_file}
+use Rattle.keys.specs.Reader.{Taken, reader_of, has_bytes, taken_at, mark_at, field_at, part_of, part_at, carried_on, ◌then◌, header_at, read_header}
 use Rattle.keys.specs.Laws.{WellFormed}
-use Rattle.keys.specs.declared.fields.Field.{Field}
+use Rattle.keys.specs.declared.key_file.KeyFile.{KeyFile}
 use Rattle.keys.specs.declared.parse.Header.{Header}
-use Rattle.keys.proofs.Taken.{has_end, steps-exact}
+use Rattle.keys.specs.declared.reader.KeyFileReader.{KeyFileReader}
+use Rattle.keys.proofs.Taken.{has_end, has-bytes, steps-exact, given, lacking}
 
--- the header by offsets, and the material behind it
+-- the header by offsets
 abbrev pub header_of : List ℕ → Header
-header_of f =
-    let material = bytes_at f 36 (material_length_of f) in
-    record {
-      version = version_of f;
-      attributes = attributes_of f;
-      material_len = material_length_of f;
-      end = 36;
-      material_status = material.status;
-      material_end = material.pos;
-    }
+header_of f = record { version = version_of f; attributes = attributes_of f; material_len = material_length_of f }
 
--- no field moves the place by more than its bytes, nor past the end
-taken-most : (b : Bool) (p n v : ℕ) → (taken_at b p n v).pos ≤ p + n
+-- ---- how far steps come: all n bytes on, within the file; or refused with 13 before that
+
+-- what steps that began at r answered, and where they left the reader
+abbrev Comes : {A : Type 0} → KeyFileReader → ℕ → Result A Refusal → KeyFileReader → Type 0
+Comes r n (Ok value) after = (after.file ≡ r.file) × (after.pos ≡ r.pos + n) × (r.pos + n ≤ length r.file.now)
+Comes r n (Err refusal) after = (refusal ≡ InvalidKeyFile) × (after.pos < r.pos + n)
+
+abbrev Coming : {A : Type 0} → KeyFileReader → ℕ → Taken A → Type 0
+Coming r n t = Comes r n t.answer t.after
+
+step-comes : {A : Type 0} (b : Bool) (r : KeyFileReader) (n : ℕ) (value : A) → 0 < n → (b ≡ true → has_bytes r n ≡ true) → Coming r n (taken_at b r n value)
 unfolding taken_at
-taken-most true p n v = omega arith
-taken-most false p n v = omega arith
+step-comes true r n value h e = (refl, refl, has_end r n (e refl))
+step-comes false r n value h e = (refl, omega arith)
 
-taken-within : (f : List ℕ) (b : Bool) (p n v : ℕ) → (b ≡ true → has_bytes f p n ≡ true) → p ≤ length f → (taken_at b p n v).pos ≤ length f
-unfolding taken_at
-taken-within f true p n v e h = has_end f p n (e refl)
-taken-within f false p n v e h = h
-
-field-most : (f : List ℕ) (p : ℕ) → (field_at f p).pos ≤ p + 4
+field-comes : (r : KeyFileReader) → Coming r 4 (field_at r)
 unfolding field_at
-field-most f p = taken-most (has_bytes f p 4) p 4 (u32_at f p)
+field-comes r = step-comes (has_bytes r 4) r 4 (u32_at r.file.now r.pos) (omega arith) (λ e. e)
 
-field-within : (f : List ℕ) (p : ℕ) → p ≤ length f → (field_at f p).pos ≤ length f
-unfolding field_at
-field-within f p h = taken-within f (has_bytes f p 4) p 4 (u32_at f p) (λ e. e) h
-
-mark-within : (f : List ℕ) → (mark_at f 0).pos ≤ length f
+mark-comes : (r : KeyFileReader) → Coming r 8 (mark_at r)
 unfolding mark_at
-mark-within f =
-    let same = bytes_eq (take 8 f) mark in
-    taken-within f (has_bytes f 0 8 && same) 0 8 0 (λ e. (both (has_bytes f 0 8) same e).0) (omega arith)
+mark-comes r =
+    let same = bytes_eq (take 8 (drop r.pos r.file.now)) mark in
+    step-comes (has_bytes r 8 && same) r 8 tt (omega arith) (λ e. (both (has_bytes r 8) same e).0)
 
-mark-wrong : (f : List ℕ) → bytes_eq (take 8 f) mark ≡ false → (mark_at f 0).pos ≡ 0
-mark-wrong f e =
-    ap (λ (x : Field). x.pos) ((steps-exact.of_mark f 0).refused (λ h. clash (bytes_eq (take 8 f) mark) (eq-bytes_eq (take 8 f) mark h.1) e))
+-- steps that began m bytes behind r
+comes-on : {A : Type 0} (r s : KeyFileReader) (m n : ℕ) (answer : Result A Refusal) (after : KeyFileReader) → s.file ≡ r.file → s.pos ≡ r.pos + m
+    → Comes s n answer after → Comes r (m + n) answer after
+comes-on r s m n (Ok value) after f p h = let size = ap (λ (x : Bor (List ℕ)). length x.now) f in (h.0 ∙ f, omega arith, omega (arith, h.2))
+comes-on r s m n (Err refusal) after f p h = (h.0, omega arith)
 
-pub header-there : (f : List ℕ) → 36 ≤ length f → take 8 f ≡ mark → read_header f ≡ header_of f
-unfolding read_header
-header-there f h e =
-    let there : (p : ℕ) → p + 4 ≤ length f → field_at f p ≡ record { status = ok; value = u32_at f p; pos = p + 4 } = λ p k. (steps-exact.of_field f p).done k in
-    let m : mark_at f 0 ≡ record { status = ok; value = 0; pos = 8 } = (steps-exact.of_mark f 0).done (omega arith, e) in
-    rw (
-      m,
-      there 8 (omega arith),
-      there 12 (omega arith),
-      there 16 (omega arith),
-      there 20 (omega arith),
-      there 24 (omega arith),
-      there 28 (omega arith),
-      there 32 (omega arith),
-    )
+carried-comes : {A B : Type 0} (r : KeyFileReader) (m n : ℕ) (answer : Result A Refusal) (after : KeyFileReader) (next : A → KeyFileReader → Taken B)
+    → Comes r m answer after → ((value : A) (s : KeyFileReader) → Coming s n (next value s)) → Coming r (m + n) (carried_on answer after next)
+carried-comes r m n (Ok value) after next h k = comes-on r after m n (next value after).answer (next value after).after h.0 h.1 (k value after)
+carried-comes r m n (Err refusal) after next h k = (h.0, omega arith)
 
--- the place after k fields
-abbrev place_after : ℕ → List ℕ → ℕ → ℕ
-place_after zero f p = p
-place_after (suc k) f p = place_after k f (field_at f p).pos
+last-comes : {A B : Type 0} (r : KeyFileReader) (n : ℕ) (answer : Result A Refusal) (after : KeyFileReader) (value_of : A → B) → Comes r n answer after
+    → Coming r n (carried_on answer after (λ value s. record { answer = Ok (value_of value); after = s }))
+last-comes r n (Ok value) after value_of h = h
+last-comes r n (Err refusal) after value_of h = h
 
-after-most : (k : ℕ) (f : List ℕ) (p : ℕ) → place_after k f p ≤ p + 4 * k
-after-most zero f p = omega arith
-after-most (suc k) f p = omega (arith, after-most k f (field_at f p).pos, field-most f p)
+field-then : {B : Type 0} (r : KeyFileReader) (n : ℕ) (next : ℕ → KeyFileReader → Taken B) → ((value : ℕ) (s : KeyFileReader) → Coming s n (next value s))
+    → Coming r (4 + n) (field_at r then next)
+field-then r n next h = carried-comes r 4 n (field_at r).answer (field_at r).after next (field-comes r) h
 
-after-within : (k : ℕ) (f : List ℕ) (p : ℕ) → p ≤ length f → place_after k f p ≤ length f
-after-within zero f p h = h
-after-within (suc k) f p h = after-within k f (field_at f p).pos (field-within f p h)
+header-comes : (r : KeyFileReader) → Coming r 36 (header_at r)
+unfolding header_at
+header-comes r =
+    carried-comes r 8 28 (mark_at r).answer (mark_at r).after _ (mark-comes r) (λ mark r.
+    field-then r 24 _ (λ version r.
+    field-then r 20 _ (λ lifetime r.
+    field-then r 16 _ (λ key_type r.
+    field-then r 12 _ (λ usage r.
+    field-then r 8 _ (λ alg r.
+    field-then r 4 _ (λ enrollment_alg r.
+    last-comes r 4 (field_at r).answer (field_at r).after _ (field-comes r))))))))
 
-end_is : (f : List ℕ) → (read_header f).end ≡ place_after 7 f (mark_at f 0).pos
-unfolding read_header
-end_is f = refl
+-- who comes to the end of n bytes has them
+come-far : {A : Type 0} (r : KeyFileReader) (n : ℕ) (answer : Result A Refusal) (after : KeyFileReader) → Comes r n answer after → after.pos ≡ r.pos + n
+    → r.pos + n ≤ length r.file.now
+come-far r n (Ok value) after h e = h.2
+come-far r n (Err refusal) after h e = absurd (omega (arith, h.1))
 
--- who has come to place 36 has read a header
-pub header-long : (f : List ℕ) → (read_header f).end ≡ 36 → 36 ≤ length f
-header-long f e = omega (arith, end_is f, after-within 7 f (mark_at f 0).pos (mark-within f))
+-- ---- the header of a file
 
-pub header-marked : (f : List ℕ) → (read_header f).end ≡ 36 → take 8 f ≡ mark
-header-marked f e = split (bytes_eq (take 8 f) mark) (λ h. bytes_eq-eq (take 8 f) mark h)
-    (λ h. absurd (omega (arith, end_is f, after-most 7 f (mark_at f 0).pos, mark-wrong f h)))
+module _ (file : Bor (List ℕ)) where
+  abbrev at_place : ℕ → KeyFileReader
+  at_place p = record { file = file; pos = p }
 
-pub header_read : (f : List ℕ) → (read_header f).end ≡ 36 → read_header f ≡ header_of f
-header_read f e = header-there f (header-long f e) (header-marked f e)
+  pub header-there : 36 ≤ length file.now → take 8 file.now ≡ mark → read_header file ≡ record { answer = Ok (header_of file.now); after = at_place 36 }
+  unfolding header_at
+  header-there h e =
+      let there : (p : ℕ) → p + 4 ≤ length file.now → field_at (at_place p) ≡ record { answer = Ok (u32_at file.now p); after = at_place (p + 4) } =
+      λ p k. (steps-exact.of_field (at_place p)).done k in
+      let m : mark_at (at_place 0) ≡ record { answer = Ok tt; after = at_place 8 } = (steps-exact.of_mark (at_place 0)).done (omega arith, e) in
+      rw (
+        m,
+        there 8 (omega arith),
+        there 12 (omega arith),
+        there 16 (omega arith),
+        there 20 (omega arith),
+        there 24 (omega arith),
+        there 28 (omega arith),
+        there 32 (omega arith),
+      )
+
+  mark-wrong : bytes_eq (take 8 file.now) mark ≡ false → (read_header file).after.pos ≡ 0
+  unfolding header_at
+  mark-wrong e =
+      rw ((steps-exact.of_mark (at_place 0)).refused (λ h. clash (bytes_eq (take 8 file.now) mark) (eq-bytes_eq (take 8 file.now) mark h.1) e))
+
+  -- who has come to place 36 has read a header
+  pub header-long : (read_header file).after.pos ≡ 36 → 36 ≤ length file.now
+  header-long e = come-far (at_place 0) 36 (read_header file).answer (read_header file).after (header-comes (at_place 0)) e
+
+  pub header-marked : (read_header file).after.pos ≡ 36 → take 8 file.now ≡ mark
+  header-marked e = split (bytes_eq (take 8 file.now) mark) (λ h. bytes_eq-eq (take 8 file.now) mark h) (λ h. absurd (omega (arith, mark-wrong h)))
+
+  pub header_read : (read_header file).after.pos ≡ 36 → read_header file ≡ record { answer = Ok (header_of file.now); after = at_place 36 }
+  header_read e = header-there (header-long e) (header-marked e)
+
+  -- a header that was read, and one that was refused
+  pub header-is : (h : Header) (r : KeyFileReader) → record { answer = Ok h; after = r } ≡ read_header file → r.pos ≡ 36
+  header-is h r e = let c : Coming (at_place 0) 36 (record { answer = Ok h; after = r }) = subst (Coming (at_place 0) 36) (sym e) (header-comes (at_place 0)) in c.1
+
+  pub refusal-is : (refusal : Refusal) (r : KeyFileReader) → record { answer = Err refusal; after = r } ≡ read_header file → refusal ≡ InvalidKeyFile
+  refusal-is refusal r e =
+      let c : Coming {A = Header} (at_place 0) 36 (record { answer = Err refusal; after = r }) = subst (Coming (at_place 0) 36) (sym e) (header-comes (at_place 0)) in
+      c.0
+
+  -- where no header is read, the answer is 13
+  come-refused : (answer : Result Header Refusal) (after : KeyFileReader) → Comes (at_place 0) 36 answer after → (after.pos ≡ 36 → ⊥) → answer ≡ Err InvalidKeyFile
+  come-refused (Ok h) after c n = absurd (n c.1)
+  come-refused (Err refusal) after c n = ap (λ (x : Refusal). Err x) c.0
+
+  pub header-refused : ((read_header file).after.pos ≡ 36 → ⊥) → (read_header file).answer ≡ Err InvalidKeyFile
+  header-refused = come-refused (read_header file).answer (read_header file).after (header-comes (at_place 0))
 
 -- ---- the file judged
 
@@ -131,60 +171,75 @@ is-valid f v =
     rw (long, marked, version, short, eq-eqb (length f) (36 + material_length_of f) v.whole)
 
 -- what is accepted, and what is refused
-pub parse_done : (f : List ℕ) → WellFormed f → parse_key_file f ≡ record { status = ok; attributes = attributes_of f; material_len = material_length_of f }
+pub parse_done : (f : List ℕ) → WellFormed f → parse_key_file f ≡ Ok (record { attributes = attributes_of f; material_len = material_length_of f })
 unfolding parse_key_file
 parse_done f v = rw (is-valid f v)
 
-pub parse_refused : (f : List ℕ) → (WellFormed f → ⊥) → parse_key_file f ≡ refused_file
+pub parse_refused : (f : List ℕ) → (WellFormed f → ⊥) → parse_key_file f ≡ Err InvalidKeyFile
 unfolding parse_key_file
 parse_refused f n = split (key_file_valid f) (λ h. absurd (n (is_well_formed f h))) (λ h. rw h)
 
 -- ---- the code's tests of a header that it has read, and of the material behind it
 
-material-there : (f : List ℕ) (n : ℕ) → length f ≡ 36 + n → bytes_at f 36 n ≡ record { status = ok; value = 0; pos = 36 + n }
-material-there f n e = (steps-exact.of_bytes f 36 n).done (omega arith)
+module _ (file : Bor (List ℕ)) where
+  pub no_header : (refusal : Refusal) (r : KeyFileReader) → record { answer = Err refusal; after = r } ≡ read_header file → Err refusal ≡ parse_key_file file.now
+  no_header refusal r e =
+      let is = refusal-is file refusal r e in
+      let none : WellFormed file.now → ⊥ =
+      λ v. let z = ap (λ (t : Taken Header). t.answer) (e ∙ header-there file v.header v.marked) in absurd cc in
+      ap (λ (x : Refusal). Err x) is ∙ sym (parse_refused file.now none)
 
-material-end : (f : List ℕ) (p n : ℕ) → (bytes_at f p n).status ≡ ok → (bytes_at f p n).pos ≡ p + n
-unfolding bytes_at taken_at
-material-end f p n e = split (has_bytes f p n) (λ h. rw h) (λ h. absurd (omega (arith, rw h at e)))
+  module _ (h : Header) (r : KeyFileReader) (e : record { answer = Ok h; after = r } ≡ read_header file) where
+    whole : ◌≡◌ {A = Taken Header} (record { answer = Ok h; after = r }) (record { answer = Ok (header_of file.now); after = at_place file 36 })
+    whole = e ∙ header_read file (sym (ap (λ (t : Taken Header). t.after.pos) e) ∙ header-is file h r e)
 
-module _ (f : List ℕ) (h : Header) (e : h ≡ read_header f) where
-  read : WellFormed f → h ≡ header_of f
-  read v = e ∙ header-there f v.header v.marked
+    header-own : h ≡ header_of file.now
+    header-own = let z = ap (λ (t : Taken Header). t.answer) whole in cc
 
-  -- a header that a file's own is not
-  unlike : {X : Type 0} (part : Header → X) (x : X) → (WellFormed f → part (header_of f) ≡ x) → (part h ≡ x → ⊥) → parse_key_file f ≡ refused_file
-  unlike part x is n = parse_refused f (λ v. n (ap part (read v) ∙ is v))
+    reader-own : r ≡ at_place file 36
+    reader-own = ap (λ (t : Taken Header). t.after) whole
 
-  pub no_header : (h.end ≡ 36 → ⊥) → parse_key_file f ≡ refused_file
-  no_header = unlike (λ x. x.end) 36 (λ v. refl)
+    -- a header that no file has
+    not-of-a-file : (WellFormed file.now → ⊥) → Err InvalidKeyFile ≡ parse_key_file file.now
+    not-of-a-file n = sym (parse_refused file.now n)
 
-  pub other_version : (h.version ≡ 0 → ⊥) → parse_key_file f ≡ refused_file
-  other_version = unlike (λ x. x.version) 0 (λ v. v.version_0)
+    pub other_version : (h.version ≡ 0 → ⊥) → Err InvalidKeyFile ≡ parse_key_file file.now
+    other_version n = not-of-a-file (λ v. n (ap (λ (x : Header). x.version) header-own ∙ v.version_0))
 
-  pub more-material : 444 < h.material_len → parse_key_file f ≡ refused_file
-  more-material n = parse_refused f (λ v. let k = ap (λ (x : Header). x.material_len) (read v) in omega (arith, v.material_short))
+    pub more-material : 444 < h.material_len → Err InvalidKeyFile ≡ parse_key_file file.now
+    more-material n = not-of-a-file (λ v. let k = ap (λ (x : Header). x.material_len) header-own in omega (arith, v.material_short))
 
-  pub missing-bytes : (h.material_status ≡ ok → ⊥) → parse_key_file f ≡ refused_file
-  missing-bytes = unlike (λ x. x.material_status) ok (λ v. ap (λ (m : Field). m.status) (material-there f (material_length_of f) v.whole))
+    pub missing-bytes : (refusal : Refusal) (s : KeyFileReader) → record { answer = Err refusal; after = s } ≡ part_at r h.material_len
+        → Err refusal ≡ parse_key_file file.now
+    missing-bytes refusal s k =
+        let n = h.material_len in
+        let l = lacking r n refusal (ap (λ (t : Taken (Bor (List ℕ))). t.answer) k) in
+        let here = ap (λ (x : KeyFileReader). x.pos) reader-own in
+        let size = ap (λ (x : KeyFileReader). length x.file.now) reader-own in
+        let long = ap (λ (x : Header). x.material_len) header-own in
+        ap (λ (x : Refusal). Err x) l.is ∙ not-of-a-file (λ v. clash (has_bytes r n) (has-bytes r n (omega (arith, v.whole))) l.has_not)
 
-  pub trailing_bytes : (h.material_end ≡ length f → ⊥) → parse_key_file f ≡ refused_file
-  trailing_bytes =
-      unlike (λ x. x.material_end) (length f) (λ v. ap (λ (m : Field). m.pos) (material-there f (material_length_of f) v.whole) ∙ sym v.whole)
+    module _ (p : Bor (List ℕ)) (s : KeyFileReader) (k : record { answer = Ok p; after = s } ≡ part_at r h.material_len) where
+      behind : s.pos ≡ 36 + material_length_of file.now
+      behind =
+          let n = h.material_len in
+          let g = given r n p (ap (λ (t : Taken (Bor (List ℕ))). t.answer) k) in
+          let end = ap (λ (t : Taken (Bor (List ℕ))). t.after.pos) (k ∙ (steps-exact.of_part r n).done g.room) in
+          end ∙ λ i. (reader-own i).pos + (header-own i).material_len
 
-  pub accepted : h.end ≡ 36 → h.version ≡ 0 → h.material_len ≤ 444 → h.material_status ≡ ok → h.material_end ≡ length f
-      → record { status = ok; attributes = h.attributes; material_len = h.material_len } ≡ parse_key_file f
-  accepted p v n s l =
-      let q : (read_header f).end ≡ 36 = sym (ap (λ (x : Header). x.end) e) ∙ p in
-      let r : h ≡ header_of f = e ∙ header_read f q in
-      let size = ap (λ (x : Header). x.material_len) r in
-      let behind = material-end f 36 (material_length_of f) (sym (ap (λ (x : Header). x.material_status) r) ∙ s) in
-      let at-end = ap (λ (x : Header). x.material_end) r in
-      let formed : WellFormed f = record {
-        header = header-long f q;
-        marked = header-marked f q;
-        version_0 = sym (ap (λ (x : Header). x.version) r) ∙ v;
-        material_short = omega arith;
-        whole = omega arith;
-      } in
-      ap (λ (x : Header). record { status = ok; attributes = x.attributes; material_len = x.material_len }) r ∙ sym (parse_done f formed)
+      pub trailing_bytes : (s.pos ≡ length file.now → ⊥) → Err InvalidKeyFile ≡ parse_key_file file.now
+      trailing_bytes n = not-of-a-file (λ v. n (behind ∙ sym v.whole))
+
+      pub accepted : h.version ≡ 0 → h.material_len ≤ 444 → s.pos ≡ length file.now
+          → Ok (record { attributes = h.attributes; material_len = h.material_len }) ≡ parse_key_file file.now
+      accepted v n l =
+          let read : (read_header file).after.pos ≡ 36 = sym (ap (λ (t : Taken Header). t.after.pos) e) ∙ header-is file h r e in
+          let long = ap (λ (x : Header). x.material_len) header-own in
+          let formed : WellFormed file.now = record {
+            header = header-long file read;
+            marked = header-marked file read;
+            version_0 = sym (ap (λ (x : Header). x.version) header-own) ∙ v;
+            material_short = omega arith;
+            whole = sym l ∙ behind;
+          } in
+          ap (λ (x : Header). Ok (record { attributes = x.attributes; material_len = x.material_len })) header-own ∙ sym (parse_done file.now formed)

@@ -13,27 +13,7 @@ use Rattle.spec.specs.Name.{hex_digit, hex_digits, key_name}
 use Rattle.buffers.proofs.Split.{split, both}
 use Rattle.spec.proofs.Name.{digits-length, key-name-valid}
 use Rattle.keys.specs.Laws.{KeyNames}
-use Rattle.keys.proofs.Digits.{key_length, name-digits, no_name, high-name}
-
--- "0123456789abcdef"
-abbrev table : List ℕ
-table = 0x30 ∷ 0x31 ∷ 0x32 ∷ 0x33 ∷ 0x34 ∷ 0x35 ∷ 0x36 ∷ 0x37 ∷ 0x38 ∷ 0x39 ∷ 0x61 ∷ 0x62 ∷ 0x63 ∷ 0x64 ∷ 0x65 ∷ 0x66 ∷ []
-
-abbrev digits_from : ℕ → List ℕ → Bool
-digits_from k [] = true
-digits_from k (x ∷ l) = eqb (hex_digit k) x && digits_from (suc k) l
-
-listed-from : (l : List ℕ) (k d : ℕ) → digits_from k l ≡ true → d < length l → hex_digit (k + d) ≡ get_or l d 0
-listed-from [] k d e h = absurd (omega arith)
-listed-from (x ∷ l) k zero e h =
-    let z : k + 0 ≡ k = omega arith in
-    rw z (eqb-true (hex_digit k) x (both (eqb (hex_digit k) x) (digits_from (suc k) l) e).0)
-listed-from (x ∷ l) k (suc d) e h =
-    let z : k + suc d ≡ suc k + d = omega arith in
-    rw z (listed-from l (suc k) d (both (eqb (hex_digit k) x) (digits_from (suc k) l) e).1 (omega arith))
-
-digit-listed : (d : ℕ) → d < 16 → hex_digit d ≡ get_or table d 0
-digit-listed d h = let z : d ≡ 0 + d = omega arith in ap hex_digit z ∙ listed-from table 0 d refl h
+use Rattle.keys.proofs.Digits.{table, digit-listed, key_length, name-digits, no_name, high-name}
 
 -- digit j, counted from the last
 digit_at : (k i j n : ℕ) → i + suc j ≡ k → get_or (hex_digits k n) i 0 ≡ hex_digit (n / 16 ^ j % 16)

@@ -1,9 +1,12 @@
 -- 01, "Key files": the later layout of 004, as a function from attributes and material to bytes, and back.
 --   mark, key_file_header, format_key_file   a file as it is written
 --   key_file_valid, parse_key_file           which bytes are a file, and what it says
-use Rattle.std.specs.Prelude.{Bool, cond, ◌&&◌, List, [], ◌∷◌, ◌++◌, ℕ, ◌+◌, eqb, leb, length, take}
+--   file_answer                              what parsing answers, in numbers
+use Rattle.std.specs.Prelude.{Bool, cond, ◌&&◌, List, [], ◌∷◌, ◌++◌, ℕ, ◌+◌, eqb, leb, length, take, Result, Ok, Err}
 use Rattle.buffers.specs.Bytes.{bytes_eq, le_bytes, u32_at}
-use Rattle.spec.specs.Status.{ok}
+use Rattle.store.specs.Answers.{status_of, value_or}
+use Rattle.store.specs.declared.status.Refusal.{Refusal}
+use Rattle.store.specs.declared.status.Refusal.TheVariants.{InvalidKeyFile}
 use Rattle.keys.specs.declared.key_file.KeyAttributes.{KeyAttributes}
 use Rattle.keys.specs.declared.key_file.KeyFile.{KeyFile}
 
@@ -48,13 +51,18 @@ key_file_valid f =
     leb header_size (length f) && (bytes_eq (take 8 f) mark && (eqb (version_of f) 0 && (leb (material_length_of f) max_material
     && eqb (length f) (header_size + material_length_of f))))
 
--- a refusal gives 0 for every number but its status
-abbrev pub no_attributes : KeyAttributes
-no_attributes = record { lifetime = 0; key_type = 0; usage = 0; alg = 0; enrollment_alg = 0 }
-
-abbrev pub refused_file : KeyFile
-refused_file = record { status = 13; attributes = no_attributes; material_len = 0 }
-
 -- the attributes and how many bytes of material stand behind the header
-unfoldable pub parse_key_file : List ℕ → KeyFile
-parse_key_file f = cond (key_file_valid f) (record { status = ok; attributes = attributes_of f; material_len = material_length_of f }) refused_file
+unfoldable pub parse_key_file : List ℕ → Result KeyFile Refusal
+parse_key_file f = cond (key_file_valid f) (Ok (record { attributes = attributes_of f; material_len = material_length_of f })) (Err InvalidKeyFile)
+
+-- the same in numbers: "Every refusal returns 0 for [..] every other returned number but its own"
+pub record FileAnswer : Type 0 where
+  pub status : ℕ
+  pub attributes : KeyAttributes
+  pub material_len : ℕ
+
+abbrev pub no_file : KeyFile
+no_file = record { attributes = record { lifetime = 0; key_type = 0; usage = 0; alg = 0; enrollment_alg = 0 }; material_len = 0 }
+
+abbrev pub file_answer : Result KeyFile Refusal → FileAnswer
+file_answer r = let file = value_or no_file r in record { status = status_of r; attributes = file.attributes; material_len = file.material_len }

@@ -4,18 +4,19 @@
 --   KeyNames                                                  the name of a key, digit by digit
 --   KeyCallsWell, KeyRefusals                                 demand 1; which number is given
 --   FormatGives, LoadReady, LoadExact, SaveExact, SaveLoads   what a done call gives, and when it is done
-use Rattle.std.specs.Prelude.{◌≡◌, ◌≢◌, ◌↔◌, true, List, [], ◌∷◌, ◌++◌, ℕ, ◌+◌, ◌-◌, ◌/◌, ◌%◌, ◌^◌, ◌≤◌, ◌<◌, length, get_or, take, drop, replicate}
+use Rattle.std.specs.Prelude.{◌≡◌, ◌≢◌, ◌↔◌, true, List, [], ◌∷◌, ◌++◌, ℕ, ◌+◌, ◌-◌, ◌/◌, ◌%◌, ◌^◌, ◌≤◌, ◌<◌, length, get_or, take, drop, replicate, Ok, Err, IsOk}
 use Rattle.std.specs.Borrow.{Bor}
 use Rattle.buffers.specs.Bytes.{le_bytes, u32_at}
-use Rattle.spec.specs.Status.{ok, Answer}
+use Rattle.spec.specs.Status.{Answer}
 use Rattle.spec.specs.Name.{valid_name, key_name}
 use Rattle.spec.specs.Calls.{Areas, areas, store_set, store_get}
 use Rattle.spec.specs.Demand1.{Well}
 use Rattle.spec.specs.Demand2.{Readable, opened, Stores}
 use Rattle.spec.specs.Shapes.{AreBytes}
-use Rattle.keys.specs.KeyFile.{mark, format_key_file, parse_key_file}
-use Rattle.keys.specs.Reader.{mark_at, field_at, bytes_at, part_at, part_place, read_header}
-use Rattle.keys.specs.declared.fields.Field.{Field}
+use Rattle.store.specs.declared.status.Refusal.TheVariants.{InvalidKeyFile}
+use Rattle.keys.specs.KeyFile.{mark, format_key_file, parse_key_file, file_answer}
+use Rattle.keys.specs.Reader.{Taken, mark_at, field_at, part_at, read_header, read_material}
+use Rattle.keys.specs.declared.reader.KeyFileReader.{KeyFileReader}
 use Rattle.keys.specs.Calls.{write_key_file, save_key, load_key}
 use Rattle.keys.specs.declared.key_file.KeyAttributes.{KeyAttributes}
 
@@ -58,46 +59,50 @@ pub record FileLayout : Type 0 where
 
 pub record ParseExact : Type 0 where
   -- bytes are accepted exactly where they are a file as it is written, and nothing else is
-  pub condition : (f : List ℕ) → AreBytes f → ((parse_key_file f).status ≡ ok) ↔ WrittenFile f
-  pub rules : (f : List ℕ) → ((parse_key_file f).status ≡ ok) ↔ WellFormed f
+  pub condition : (f : List ℕ) → AreBytes f → (IsOk (parse_key_file f)) ↔ WrittenFile f
+  pub rules : (f : List ℕ) → (IsOk (parse_key_file f)) ↔ WellFormed f
   -- what was written is given back
   pub gives : (a : KeyAttributes) (material : List ℕ) → Fits a → length material ≤ 444
-      → parse_key_file (format_key_file a material) ≡ record { status = ok; attributes = a; material_len = length material }
+      → parse_key_file (format_key_file a material) ≡ Ok (record { attributes = a; material_len = length material })
   -- 13 is the only refusal, and has 0 for every number
-  pub refusal : (f : List ℕ) → (¬ WellFormed f) → parse_key_file f
+  pub refusal : (f : List ℕ) → (¬ WellFormed f) → parse_key_file f ≡ Err InvalidKeyFile
+  pub refusal_numbers : (f : List ℕ) → (¬ WellFormed f) → file_answer (parse_key_file f)
       ≡ record { status = 13; attributes = record { lifetime = 0; key_type = 0; usage = 0; alg = 0; enrollment_alg = 0 }; material_len = 0 }
 
--- who reads the header one field after the other comes to place 36 exactly where there is a header, and has then read its fields and the material
+-- who reads the header one field after the other comes to place 36 exactly where there is a header, has then read its fields, and takes the material
+-- behind it; where there is none, the reading is refused
 pub record ReaderExact : Type 0 where
-  pub condition : (f : List ℕ) → ((read_header f).end ≡ 36) ↔ ((36 ≤ length f) × (take 8 f ≡ mark))
-  pub fields : (f : List ℕ) → (read_header f).end ≡ 36 → read_header f
+  pub condition : (file : Bor (List ℕ)) → ((read_header file).after.pos ≡ 36) ↔ ((36 ≤ length file.now) × (take 8 file.now ≡ mark))
+  pub fields : (file : Bor (List ℕ)) → (read_header file).after.pos ≡ 36 → let f = file.now in read_header file
       ≡ record {
-        version = u32_at f 8;
-        attributes = record { lifetime = u32_at f 12; key_type = u32_at f 16; usage = u32_at f 20; alg = u32_at f 24; enrollment_alg = u32_at f 28 };
-        material_len = u32_at f 32;
-        end = 36;
-        material_status = (bytes_at f 36 (u32_at f 32)).status;
-        material_end = (bytes_at f 36 (u32_at f 32)).pos;
+        answer = Ok (record {
+          version = u32_at f 8;
+          attributes = record { lifetime = u32_at f 12; key_type = u32_at f 16; usage = u32_at f 20; alg = u32_at f 24; enrollment_alg = u32_at f 28 };
+          material_len = u32_at f 32;
+        });
+        after = record { file = file; pos = 36 };
       }
+  pub material : (file : Bor (List ℕ)) → (read_header file).after.pos ≡ 36
+      → read_material file ≡ part_at (record { file = file; pos = 36 }) (u32_at file.now 32)
+  pub refused : (file : Bor (List ℕ)) → (¬ ((36 ≤ length file.now) × (take 8 file.now ≡ mark))) → (read_header file).answer ≡ Err InvalidKeyFile
 
--- a step that takes n bytes: done where its fact holds, with its value and the place behind them; else 13, 0, and the place as it was
-pub record Step (pos n value : ℕ) (fact : Type 0) (f : Field) : Type 0 where
-  pub done : fact → f ≡ record { status = ok; value = value; pos = pos + n }
-  pub refused : (¬ fact) → f ≡ record { status = 13; value = 0; pos = pos }
+-- a step that takes n bytes: done where its fact holds, with its value and the reader behind them; else 13, no value, and the reader as it was
+pub record Step {A : Type 0} (r : KeyFileReader) (n : ℕ) (value : A) (fact : Type 0) (t : Taken A) : Type 0 where
+  pub done : fact → t ≡ record { answer = Ok value; after = record { file = r.file; pos = r.pos + n } }
+  pub refused : (¬ fact) → t ≡ record { answer = Err InvalidKeyFile; after = r }
 
 pub record StepsExact : Type 0 where
-  pub of_mark : (file : List ℕ) (pos : ℕ) → Step pos 8 0 ((pos + 8 ≤ length file) × (take 8 (drop pos file) ≡ mark)) (mark_at file pos)
-  pub of_field : (file : List ℕ) (pos : ℕ) → Step pos 4 (u32_at file pos) (pos + 4 ≤ length file) (field_at file pos)
-  pub of_bytes : (file : List ℕ) (pos n : ℕ) → Step pos n 0 (pos + n ≤ length file) (bytes_at file pos n)
-  pub part : (file : List ℕ) (pos n : ℕ) → pos + n ≤ length file → part_at file pos n ≡ take n (drop pos file)
-  pub no_part : (file : List ℕ) (pos n : ℕ) → (¬ (pos + n ≤ length file)) → part_at file pos n ≡ []
-  -- it begins at its place in the lent file, and the empty one where the file begins
-  pub place : (file : Bor (List ℕ)) (pos n : ℕ) → pos + n ≤ length file.now → part_place file pos n ≡ (file.ref_ptr.0, file.ref_ptr.1 + pos)
-  pub no_place : (file : Bor (List ℕ)) (pos n : ℕ) → (¬ (pos + n ≤ length file.now)) → part_place file pos n ≡ file.ref_ptr
+  pub of_mark : (r : KeyFileReader) → Step r 8 tt ((r.pos + 8 ≤ length r.file.now) × (take 8 (drop r.pos r.file.now) ≡ mark)) (mark_at r)
+  pub of_field : (r : KeyFileReader) → Step r 4 (u32_at r.file.now r.pos) (r.pos + 4 ≤ length r.file.now) (field_at r)
+  -- the part begins at its place in the lent file
+  pub of_part : (r : KeyFileReader) (n : ℕ)
+      → Step r n (record { ref_ptr = (r.file.ref_ptr.0, r.file.ref_ptr.1 + r.pos); now = take n (drop r.pos r.file.now) }) (r.pos + n ≤ length r.file.now)
+      (part_at r n)
   -- the number at a place is the one whose four bytes stand there
   pub number : (before rest : List ℕ) (n : ℕ) → n < 2 ^ 32 → u32_at (before ++ (le_bytes 4 n ++ rest)) (length before) ≡ n
   -- the material of a file is the part behind its header
-  pub material : (a : KeyAttributes) (material : List ℕ) → part_at (format_key_file a material) 36 (length material) ≡ material
+  pub material : (a : KeyAttributes) (material : List ℕ) (r : KeyFileReader) → r.file.now ≡ format_key_file a material → r.pos ≡ 36
+      → (part_at r (length material)).answer ≡ Ok (record { ref_ptr = (r.file.ref_ptr.0, r.file.ref_ptr.1 + 36); now = material })
 
 -- ---- the name of a key
 

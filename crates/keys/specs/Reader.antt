@@ -1,69 +1,83 @@
 -- 01: "The file reader keeps the lent file and a place in it, and takes one field at a time; the material is handed back as part of those bytes. A
 -- place that leaves too few bytes for the field, or lies past the end, gives 13."
-use Rattle.std.specs.Prelude.{Bool, true, false, cond, ◌&&◌, List, [], ℕ, ◌+◌, ◌-◌, leb, length, take, drop}
+use Rattle.std.specs.Prelude.{Bool, true, false, ◌&&◌, List, ℕ, ◌+◌, ◌-◌, leb, length, take, drop, Result, Ok, Err}
 use Rattle.std.specs.Borrow.{Bor}
 use Rattle.buffers.specs.Bytes.{bytes_eq, u32_at}
-use Rattle.spec.specs.Status.{ok}
+use Rattle.store.specs.declared.status.Refusal.{Refusal}
+use Rattle.store.specs.declared.status.Refusal.TheVariants.{InvalidKeyFile}
 use Rattle.keys.specs.KeyFile.{mark}
-use Rattle.keys.specs.declared.fields.Field.{Field}
 use Rattle.keys.specs.declared.parse.Header.{Header}
+use Rattle.keys.specs.declared.reader.KeyFileReader.{KeyFileReader}
 
--- n bytes are left from a place on
-unfoldable pub has_bytes : List ℕ → ℕ → ℕ → Bool
-has_bytes file pos n = leb pos (length file) && leb n (length file - pos)
+-- a reader at a file's front
+abbrev pub reader_of : Bor (List ℕ) → KeyFileReader
+reader_of file = record { file = file; pos = 0 }
 
--- 13, and the place as it was
-abbrev pub refused_at : ℕ → Field
-refused_at pos = record { status = 13; value = 0; pos = pos }
+-- n bytes are left from its place on
+unfoldable pub has_bytes : KeyFileReader → ℕ → Bool
+has_bytes r n = leb r.pos (length r.file.now) && leb n (length r.file.now - r.pos)
 
--- a field of n bytes taken at a place: its value, and the place behind it; or refused
-unfoldable pub taken_at : Bool → ℕ → ℕ → ℕ → Field
-taken_at true pos n value = record { status = ok; value = value; pos = pos + n }
-taken_at false pos n value = refused_at pos
+-- what a step answers, and the reader after it
+pub record Taken (A : Type 0) : Type 0 where
+  pub answer : Result A Refusal
+  pub after : KeyFileReader
+
+-- 13, and the reader as it was
+abbrev pub refused_at : {A : Type 0} → KeyFileReader → Taken A
+refused_at r = record { answer = Err InvalidKeyFile; after = r }
+
+-- n bytes taken: their value, and the reader behind them; or refused
+unfoldable pub taken_at : {A : Type 0} → Bool → KeyFileReader → ℕ → A → Taken A
+taken_at true r n value = record { answer = Ok value; after = record { file = r.file; pos = r.pos + n } }
+taken_at false r n value = refused_at r
 
 -- the mark, which has no value
-unfoldable pub mark_at : List ℕ → ℕ → Field
-mark_at file pos = taken_at (has_bytes file pos 8 && bytes_eq (take 8 (drop pos file)) mark) pos 8 0
+unfoldable pub mark_at : KeyFileReader → Taken (Unit {0})
+mark_at r = taken_at (has_bytes r 8 && bytes_eq (take 8 (drop r.pos r.file.now)) mark) r 8 tt
 
 -- a 32-bit number
-unfoldable pub field_at : List ℕ → ℕ → Field
-field_at file pos = taken_at (has_bytes file pos 4) pos 4 (u32_at file pos)
+unfoldable pub field_at : KeyFileReader → Taken ℕ
+field_at r = taken_at (has_bytes r 4) r 4 (u32_at r.file.now r.pos)
 
--- n bytes, which are no number
-unfoldable pub bytes_at : List ℕ → ℕ → ℕ → Field
-bytes_at file pos n = taken_at (has_bytes file pos n) pos n 0
+-- n bytes, as part of the file: they begin at the place in the file's block
+abbrev pub part_of : KeyFileReader → ℕ → Bor (List ℕ)
+part_of r n = record { ref_ptr = (r.file.ref_ptr.0, r.file.ref_ptr.1 + r.pos); now = take n (drop r.pos r.file.now) }
 
--- those bytes, as part of the file; none where they are refused
-unfoldable pub part_at : List ℕ → ℕ → ℕ → List ℕ
-part_at file pos n = cond (has_bytes file pos n) (take n (drop pos file)) []
+unfoldable pub part_at : KeyFileReader → ℕ → Taken (Bor (List ℕ))
+part_at r n = taken_at (has_bytes r n) r n (part_of r n)
 
--- where they begin: at the place in the file's block; the empty part of a refusal stands at the file's front
-unfoldable pub part_place : Bor (List ℕ) → ℕ → ℕ → ℕ × ℕ
-part_place file pos n = (file.ref_ptr.0, file.ref_ptr.1 + cond (has_bytes file.now pos n) pos 0)
+-- a step, and then the next one, told what it took; a refusal is the last
+abbrev pub carried_on : {A B : Type 0} → Result A Refusal → KeyFileReader → (A → KeyFileReader → Taken B) → Taken B
+carried_on (Ok value) r next = next value r
+carried_on (Err refusal) r next = record { answer = Err refusal; after = r }
 
--- the header, one field after the other: what stands in it, and the place that the reader has come to; then the material, as long as it says
-unfoldable pub read_header : List ℕ → Header
-read_header file =
-    let mark = mark_at file 0 in
-    let version = field_at file mark.pos in
-    let lifetime = field_at file version.pos in
-    let key_type = field_at file lifetime.pos in
-    let usage = field_at file key_type.pos in
-    let alg = field_at file usage.pos in
-    let enrollment_alg = field_at file alg.pos in
-    let material_length = field_at file enrollment_alg.pos in
-    let material = bytes_at file material_length.pos material_length.value in
+infixr 0 ◌then◌
+abbrev pub ◌then◌ : {A B : Type 0} → Taken A → (A → KeyFileReader → Taken B) → Taken B
+step then next = carried_on step.answer step.after next
+
+-- the header, one field after the other
+unfoldable pub header_at : KeyFileReader → Taken Header
+header_at r =
+    mark_at r then λ mark r.
+    field_at r then λ version r.
+    field_at r then λ lifetime r.
+    field_at r then λ key_type r.
+    field_at r then λ usage r.
+    field_at r then λ alg r.
+    field_at r then λ enrollment_alg r.
+    field_at r then λ material_len r.
     record {
-      version = version.value;
-      attributes = record {
-        lifetime = lifetime.value;
-        key_type = key_type.value;
-        usage = usage.value;
-        alg = alg.value;
-        enrollment_alg = enrollment_alg.value;
-      };
-      material_len = material_length.value;
-      end = material_length.pos;
-      material_status = material.status;
-      material_end = material.pos;
+      answer = Ok (record {
+        version = version;
+        attributes = record { lifetime = lifetime; key_type = key_type; usage = usage; alg = alg; enrollment_alg = enrollment_alg };
+        material_len = material_len;
+      });
+      after = r;
     }
+
+-- the header of a file; and the material behind it, as long as it says
+abbrev pub read_header : Bor (List ℕ) → Taken Header
+read_header file = header_at (reader_of file)
+
+unfoldable pub read_material : Bor (List ℕ) → Taken (Bor (List ℕ))
+read_material file = read_header file then λ header r. part_at r header.material_len

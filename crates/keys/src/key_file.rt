@@ -1,5 +1,5 @@
 // A key file's attributes and what parsing gives.
-#[derive(Clone, Copy)]
+#[derive(Clone, Copy, Default)]
 pub struct KeyAttributes {
     pub lifetime: u32,
     pub key_type: u32,
@@ -8,10 +8,8 @@ pub struct KeyAttributes {
     pub enrollment_alg: u32,
 }
 
-// A refusal has 0 for every number but its status.
-#[derive(Clone, Copy)]
+#[derive(Clone, Copy, Default)]
 pub struct KeyFile {
-    pub status: u32,
     pub attributes: KeyAttributes,
     pub material_len: u32,
 }

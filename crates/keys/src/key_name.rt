@@ -1,37 +1,30 @@
 // The name that a key is kept under.
-ghost use Rattle.std.specs.Prelude.{◌≡◌, ◌<◌, length};
-ghost use Rattle.spec.specs.Name.{hex_digit, hex_digits, key_name};
+ghost use Rattle.std.specs.Prelude.{◌≡◌};
+ghost use Rattle.spec.specs.Name.{hex_digits, key_name};
 
-fn hex_digit(d: u8) -> u8
-    requires { d < 16 }
-    ensures { result ≡ hex_digit d }
-{
-    if d < 10 { 0x30 + d } else { 0x57 + d }
-}
+const HEX_DIGITS: [u8; 16] = *b"0123456789abcdef";
 
-pub(crate) fn key_digits(key_id: u32) -> [u8; 16]
+fn key_digits(key_id: u32) -> [u8; 16]
     ensures { result ≡ hex_digits 16 key_id }
 {
     let mut digits = [0u8; 16];
     let mut rest = key_id;
-    let mut i = 16;
-    while 0 < i {
-        i -= 1;
-        digits[i] = hex_digit((rest % 16) as u8);
-        rest = rest / 16;
+    // `iter_mut().rev()` would count nothing, but no clause says what it wrote.
+    for i in (0..16).rev() {
+        digits[i] = HEX_DIGITS[(rest % 16) as usize];
+        rest /= 16;
     }
     digits
 }
 
-// How many of the digits are the name: none where there is no such key, since a call refuses the empty name where it refuses a bad one.
-pub(crate) fn key_name_len(key_id: u32) -> usize
-    ensures { result ≡ length (key_name key_id) }
+// The name, in the lent digits: the empty one where there is no such key, since a call refuses it where it refuses a bad one.
+pub(crate) fn key_name(key_id: u32, digits: &mut [u8; 16]) -> &[u8]
+    ensures { result.now ≡ key_name key_id }
 {
-    if key_id < 1 {
-        return 0;
+    *digits = key_digits(key_id);
+    if key_id < 1 || 0xfffeffff < key_id {
+        &digits[..0]
+    } else {
+        &digits[..]
     }
-    if 0xfffeffff < key_id {
-        return 0;
-    }
-    16
 }

@@ -1,7 +1,6 @@
 // PSA key files: read, written, and kept as records under the key's identifier.
 #![tactic(auto)]
 
-pub mod fields;
 pub mod format;
 pub mod key_file;
 mod key_name;
