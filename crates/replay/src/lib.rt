@@ -5,28 +5,34 @@
 // reads the first, `step` carries out each other and makes its answer.
 #![tactic(auto)]
 
+mod input;
 mod line;
+mod output;
 mod player;
-mod stream;
 
 ghost use Rattle.std.specs.Prelude.{◌≤◌};
 
-use script_replay::gather;
+use player::Player;
 use std::io;
-use stream::BUFFER_SIZE;
 
-// From any reader to any writer that can be copied, as the handle of a stream and the `&` of an open file can: a copy reads or writes on behind the
-// other. 0 where the script was read to its end, or its first line is bad; 1 where the answers can't be written; 2 where the script can't be read.
-pub fn play_script<R: io::Read + Copy, W: io::Write + Copy>(input: R, output: W) -> u32
+// Both buffers have as many bytes.
+const BUFFER_SIZE: usize = 65536;
+
+// Why a script isn't played to its end.
+#[derive(Clone, Copy)]
+enum Fault {
+    Write,
+    Read,
+}
+
+// From any reader to any writer. 0 where the script was read to its end, or its first line is bad; 1 where the answers can't be written; 2 where the script
+// can't be read. What a caller in C is told, so a number.
+pub fn play_script<R: io::Read + Drop, W: io::Write + Drop>(input: R, output: W) -> u32
     ensures { result ≤ 2 }
 {
-    let mut chunk = [0u8; BUFFER_SIZE];
-    let mut answers = [0u8; BUFFER_SIZE];
-    let mut line = gather::held_buffer();
-    player::play(
-        stream::begin(input, output),
-        &mut chunk,
-        &mut answers,
-        &mut line,
-    )
+    match Player::new(input, output).play() {
+        Ok(()) => 0,
+        Err(Fault::Write) => 1,
+        Err(Fault::Read) => 2,
+    }
 }

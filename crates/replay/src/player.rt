@@ -1,134 +1,110 @@
 // A whole script: the first line, then each other on card and chip.
-ghost use Rattle.std.specs.Prelude.{◌≤◌, ◌≡◌, take, []};
-ghost use Rattle.script_replay.specs.Script.{err_syntax, answer_line};
-ghost use Rattle.script_replay.specs.Replay.{«step» as Replay-step};
-ghost use Rattle.replay.specs.Turns.{Bounded, BoundedLine, Appended};
-
+use crate::Fault;
+use crate::input::Input;
 use crate::line::Line;
-use crate::stream::{BUFFER_SIZE, Stream};
-use crate::{line, stream};
+use crate::output::Output;
 use script_replay::answer::ANSWER_SIZE;
-use script_replay::gather::HELD_SIZE;
+use script_replay::header::ScriptHeader;
 use script_replay::{answer, areas, header, step};
 use std::io;
 
-// The line that is held is carried out, and its answer put behind the others.
-fn play_line<R: Copy, W: io::Write + Copy>(
-    l: Line<R, W>,
-    kv: &mut [u8],
-    rbp: &mut [u8],
-    device_key: &[u8],
-    line: &[u8; HELD_SIZE],
-    answers: &mut [u8; BUFFER_SIZE],
-) -> Stream<R, W>
-    requires { BoundedLine l }
-    ensures bounded { Bounded result }
-    ensures appended { Appended l.stream result answers.old answers.new (Replay-step kv.old rbp.old device_key.now (take l.len line.now)).answer }
-    ensures rbp_after { record { kv = kv.exit.now; rbp = rbp.new } ≡ (Replay-step kv.entry.now rbp.old device_key.now (take l.len line.now)).after }
-{
-    let mut answer = [0u8; ANSWER_SIZE];
-    let len = l.len;
-    let all: &[u8] = line;
-    let n = step::step(kv, rbp, device_key, &all[0..len], &mut answer);
-    stream::put(l.stream, answers, &answer[0..n])
+#[derive(Drop)]
+pub(crate) struct Player<R, W> {
+    pub(crate) input: Input<R>,
+    output: Output<W>,
+    line: Line,
 }
 
-// The lines after the first.
-fn play_lines<R: io::Read + Copy, W: io::Write + Copy>(
-    s: Stream<R, W>,
-    kv: &mut [u8],
-    rbp: &mut [u8],
-    device_key: &[u8],
-    chunk: &mut [u8; BUFFER_SIZE],
-    answers: &mut [u8; BUFFER_SIZE],
-    line: &mut [u8; HELD_SIZE],
-) -> Stream<R, W>
-    requires { Bounded s }
-    ensures { Bounded result }
-{
-    let mut l = line::next_line(s, chunk, answers, line);
-    let mut turns = u64::MAX;
-    while 0 < turns && l.is_there() {
-        let played = play_line(l, kv, rbp, device_key, line, answers);
-        l = line::next_line(played, chunk, answers, line);
-        turns -= 1;
+impl<R: io::Read, W: io::Write> Player<R, W> {
+    ghost use Rattle.std.specs.Prelude.{◌≡◌, false, ◌≤◌, ◌<◌, [], IsOk, IfOk, OnOk};
+    ghost use Rattle.script_replay.specs.Script.{err_syntax, answer_line};
+    ghost use Rattle.script_replay.specs.Replay.{«step» as Replay-step};
+    ghost use Rattle.replay.specs.Turns.{text, Taken, Waits, Appended};
+
+    pub(crate) fn new(input: R, output: W) -> Self {
+        Player {
+            input: Input::new(input),
+            output: Output::new(output),
+            line: Line::new(),
+        }
     }
-    l.stream
-}
 
-// Card and chip start empty.
-fn play_from_empty<R: io::Read + Copy, W: io::Write + Copy>(
-    s: Stream<R, W>,
-    device_key: [u8; 16],
-    slots: usize,
-    chunk: &mut [u8; BUFFER_SIZE],
-    answers: &mut [u8; BUFFER_SIZE],
-    line: &mut [u8; HELD_SIZE],
-) -> Stream<R, W>
-    requires { Bounded s × (slots ≤ 64) }
-    ensures { Bounded result }
-{
-    let mut kv = [0u8; areas::MAX_KV];
-    let mut rbp = [0u8; areas::MAX_RBP];
-    let sizes = areas::area_sizes(slots);
-    let kv_end = sizes.kv;
-    let rbp_end = sizes.rbp;
-    play_lines(
-        s,
-        &mut kv[0..kv_end],
-        &mut rbp[0..rbp_end],
-        &device_key,
-        chunk,
-        answers,
-        line,
-    )
-}
-
-// 02: "a bad first line, or empty input, prints that and stops".
-fn play_unreadable<R: Copy, W: io::Write + Copy>(
-    s: Stream<R, W>,
-    answers: &mut [u8; BUFFER_SIZE],
-) -> Stream<R, W>
-    requires { Bounded s }
-    ensures bounded { Bounded result }
-    ensures appended { Appended s result answers.old answers.new (answer_line err_syntax []) }
-{
-    let mut answer = [0u8; ANSWER_SIZE];
-    let n = answer::put_unreadable(&mut answer);
-    stream::put(s, answers, &answer[0..n])
-}
-
-// What is left is written.
-fn finish<R: Copy, W: io::Write + Copy>(s: Stream<R, W>, answers: &[u8; BUFFER_SIZE]) -> u32
-    requires { Bounded s }
-    ensures { result ≤ 2 }
-{
-    if s.status == stream::ERR_OUTPUT {
-        return s.status;
+    // More of the line from what was read, or another read where that is used up, once the answers so far are written. Whether its newline has come.
+    fn gather_some(&mut self) -> Result<bool, Fault>
+        ensures taken { self.old.input.from < self.old.input.to → IfOk result (Taken self.old.input self.new.input self.old.line self.new.line) }
+        ensures answers { self.old.input.from < self.old.input.to → IsOk result × (self.new.output ≡ self.old.output) }
+        ensures waits { self.old.input.to ≤ self.old.input.from → Waits result self.old.line self.new.line }
+    {
+        if self.input.to <= self.input.from {
+            self.output.flush()?;
+            self.input.refill()?;
+            return Ok(false);
+        }
+        Ok(self.input.take_part(&mut self.line))
     }
-    stream::flush(s, answers).status
-}
 
-pub(crate) fn play<R: io::Read + Copy, W: io::Write + Copy>(
-    s: Stream<R, W>,
-    chunk: &mut [u8; BUFFER_SIZE],
-    answers: &mut [u8; BUFFER_SIZE],
-    line: &mut [u8; HELD_SIZE],
-) -> u32
-    requires { Bounded s }
-    ensures { result ≤ 2 }
-{
-    let first = line::next_line(s, chunk, answers, line);
-    if first.stream.status != stream::OK {
-        return first.stream.status;
+    // Whether there is one more: the last may lack its newline, and what came before a read that failed is none. A proved loop has to end, and nothing says
+    // that a line does: so its turns are as many as no run uses up.
+    fn next_line(&mut self) -> Result<bool, Fault>
+        ensures { IfOk result (λ there. there ≡ false → text self.new.line ≡ []) }
+    {
+        self.line.len = 0;
+        for _ in 0..u64::MAX {
+            if self.input.ended {
+                break;
+            }
+            if self.gather_some()? {
+                return Ok(true);
+            }
+        }
+        Ok(0 < self.line.len)
     }
-    let len = first.len;
-    let all: &[u8] = line;
-    let header = header::read_header(&all[0..len]);
-    if !header.ok {
-        return finish(play_unreadable(first.stream, answers), answers);
+
+    // The line that is held is carried out, and its answer put behind the others.
+    fn play_line(&mut self, kv: &mut [u8], rbp: &mut [u8], device_key: &[u8]) -> Result<(), Fault>
+        ensures input { self.new.input ≡ self.old.input }
+        ensures appended { OnOk result (Appended self.old.output self.new.output (Replay-step kv.old rbp.old device_key.now (text self.old.line)).answer) }
+        ensures rbp_after { record { kv = kv.new; rbp = rbp.new } ≡ (Replay-step kv.old rbp.old device_key.now (text self.old.line)).after }
+    {
+        let mut answer = [0u8; ANSWER_SIZE];
+        let n = step::step(kv, rbp, device_key, self.line.text(), &mut answer);
+        self.output.put(&answer[..n])
     }
-    let key = header.key;
-    let played = play_from_empty(first.stream, key, header.slots, chunk, answers, line);
-    finish(played, answers)
+
+    // The lines after the first, on a card and a chip that start empty.
+    fn play_lines(&mut self, header: &ScriptHeader) -> Result<(), Fault>
+        requires { header.now.slots ≤ 64 }
+    {
+        let mut kv = [0u8; areas::MAX_KV];
+        let mut rbp = [0u8; areas::MAX_RBP];
+        let sizes = areas::area_sizes(header.slots);
+        for _ in 0..u64::MAX {
+            if !self.next_line()? {
+                break;
+            }
+            self.play_line(&mut kv[..sizes.kv], &mut rbp[..sizes.rbp], &header.key)?;
+        }
+        Ok(())
+    }
+
+    // 02: "a bad first line, or empty input, prints that and stops".
+    fn play_unreadable(&mut self) -> Result<(), Fault>
+        ensures input { self.new.input ≡ self.old.input }
+        ensures appended { OnOk result (Appended self.old.output self.new.output (answer_line err_syntax [])) }
+    {
+        let mut answer = [0u8; ANSWER_SIZE];
+        let n = answer::put_unreadable(&mut answer);
+        self.output.put(&answer[..n])
+    }
+
+    pub(crate) fn play(&mut self) -> Result<(), Fault> {
+        self.next_line()?;
+        let header = header::read_header(self.line.text());
+        if header.ok {
+            self.play_lines(&header)?;
+        } else {
+            self.play_unreadable()?;
+        }
+        self.output.flush()
+    }
 }
