@@ -18,7 +18,7 @@ pub(crate) struct Player<R, W> {
 impl<R: io::Read, W: io::Write> Player<R, W> {
     ghost use Rattle.std.specs.Prelude.{◌≡◌, false, ◌≤◌, ◌<◌, [], IsOk, IfOk, OnOk};
     ghost use Rattle.script_replay.specs.Script.{err_syntax, answer_line};
-    ghost use Rattle.script_replay.specs.Replay.{«step» as Replay-step};
+    ghost use Rattle.script_replay.specs.Replay.{step};
     ghost use Rattle.replay.specs.Turns.{text, Taken, Waits, Appended};
 
     pub(crate) fn new(input: R, output: W) -> Self {
@@ -63,8 +63,8 @@ impl<R: io::Read, W: io::Write> Player<R, W> {
     // The line that is held is carried out, and its answer put behind the others.
     fn play_line(&mut self, kv: &mut [u8], rbp: &mut [u8], device_key: &[u8]) -> Result<(), Fault>
         ensures input { self.new.input ≡ self.old.input }
-        ensures appended { OnOk result (Appended self.old.output self.new.output (Replay-step kv.old rbp.old device_key.now (text self.old.line)).answer) }
-        ensures rbp_after { record { kv = kv.new; rbp = rbp.new } ≡ (Replay-step kv.old rbp.old device_key.now (text self.old.line)).after }
+        ensures appended { OnOk result (Appended self.old.output self.new.output (step kv.old rbp.old device_key.now (text self.old.line)).answer) }
+        ensures rbp_after { record { kv = kv.new; rbp = rbp.new } ≡ (step kv.old rbp.old device_key.now (text self.old.line)).after }
     {
         let mut answer = [0u8; ANSWER_SIZE];
         let n = step::step(kv, rbp, device_key, self.line.text(), &mut answer);
@@ -99,11 +99,9 @@ impl<R: io::Read, W: io::Write> Player<R, W> {
 
     pub(crate) fn play(&mut self) -> Result<(), Fault> {
         self.next_line()?;
-        let header = header::read_header(self.line.text());
-        if header.ok {
-            self.play_lines(&header)?;
-        } else {
-            self.play_unreadable()?;
+        match header::read_header(self.line.text()) {
+            Some(header) => self.play_lines(&header)?,
+            None => self.play_unreadable()?,
         }
         self.output.flush()
     }

@@ -16,7 +16,13 @@ use Rattle.spec.specs.Interleaving.{Outcome}
 use Rattle.spec.specs.Calls.{Areas, areas, store_get}
 use Rattle.spec.proofs.Whole.{count-within}
 use Rattle.script_replay.specs.Script.{field, err_syntax, answer_line, at_front}
-use Rattle.script_replay.specs.Replay.{Played, answered, unreadable, get_line}
+use Rattle.script_replay.specs.Replay.{Played, answered, unreadable, answer_size, shown, left, get_line}
+use Rattle.std.specs.Prelude.{Option, Some, None, Result, Ok, Err, unwrap_or}
+use Rattle.std.specs.Result.{result_unwrap_or}
+use Rattle.std.proofs.lemmas.Option.{none-some, same_Some}
+use Rattle.store.specs.Answers.{count_of}
+use Rattle.store.specs.declared.status.Refusal.{Refusal}
+use Rattle.std.specs.Option.{option_map}
 
 -- four pieces, one behind the other
 module _ (status : ℕ) (d : List ℕ) where
@@ -71,17 +77,42 @@ pub with_bound : (o : Played) (s : Areas) (out last : List ℕ) (r : ℕ)
 with_bound o s out last r (p, (q, e)) = (p, (q, (e, within o.answer out last r p q)))
 
 -- a call that returns nothing but its number
-module _ (o : Outcome Areas Answer) (status : ℕ) (kv rbp : List ℕ)
+module _ (o : Outcome Areas Answer) (status told : ℕ) (kv rbp : List ℕ) (t : told ≡ status)
     (e : record { answer = record { status = status; numbers = []; output = [] }; after = areas kv rbp } ≡ o) where
-  pub call-written : (out last : List ℕ) (r : ℕ) → r ≡ length (answer_line status []) → last ≡ at_front (answer_line status []) out
+  pub call-written : (out last : List ℕ) (r : ℕ) → r ≡ length (answer_line told []) → last ≡ at_front (answer_line told []) out
       → (r ≡ length (answered o).answer) × ((last ≡ at_front (answered o).answer out) × (areas kv rbp ≡ (answered o).after))
-  call-written out last r p q = rw (sym e) (p, (q, refl))
+  call-written out last r p q =
+      rw (sym e) (p ∙ ap (λ (n : ℕ). length (answer_line n [])) t, (q ∙ ap (λ (n : ℕ). at_front (answer_line n []) out) t, refl))
 
--- a line that can't be read
-pub refused-line : (o : Played) (kv rbp out last : List ℕ) (r : ℕ) → o ≡ unreadable kv rbp → r ≡ length (answer_line err_syntax [])
-    → last ≡ at_front (answer_line err_syntax []) out
-    → (r ≡ length o.answer) × ((last ≡ at_front o.answer out) × (areas kv rbp ≡ o.after))
-refused-line o kv rbp out last r e p q = rw e (p, (q, refl))
+-- what a get counted
+pub count-told : (r : Result ℕ Refusal) → result_unwrap_or r 0 ≡ count_of r
+count-told (Ok n) = refl
+count-told (Err e) = refl
+
+-- what is written where a line is carried out or can't be read, and where it may be either
+module _ (kv rbp out : List ℕ) where
+  pub some-stepped : (o : Option Played) (s : Areas) (last : List ℕ) (n : ℕ) → Some n ≡ option_map answer_size o → last ≡ shown o out → s ≡ left kv rbp o
+      → (n ≡ length (unwrap_or o (unreadable kv rbp)).answer)
+      × ((last ≡ at_front (unwrap_or o (unreadable kv rbp)).answer out) × (s ≡ (unwrap_or o (unreadable kv rbp)).after))
+  some-stepped None s last n p q e = absurd (none-some n (sym p))
+  some-stepped (Some o) s last n p q e = (same_Some n (length o.answer) p, (q, e))
+
+  pub none-stepped : (o : Option Played) (s : Areas) (last last' : List ℕ) (n : ℕ) → None ≡ option_map answer_size o → last ≡ shown o out → s ≡ left kv rbp o
+      → n ≡ length (answer_line err_syntax []) → last' ≡ at_front (answer_line err_syntax []) last
+      → (n ≡ length (unwrap_or o (unreadable kv rbp)).answer)
+      × ((last' ≡ at_front (unwrap_or o (unreadable kv rbp)).answer out) × (s ≡ (unwrap_or o (unreadable kv rbp)).after))
+  none-stepped None s last last' n p q e x y = (x, (y ∙ ap (at_front (answer_line err_syntax [])) q, e))
+  none-stepped (Some o) s last last' n p q e x y = absurd (none-some (length o.answer) p)
+
+-- a line that may be no call: carried out, or not
+module _ (o : Option Played) (kv rbp out : List ℕ) where
+  pub line-done : (p : Played) (s : Areas) (last : List ℕ) (r : ℕ) → o ≡ Some p
+      → (r ≡ length p.answer) × ((last ≡ at_front p.answer out) × (s ≡ p.after))
+      → (Some r ≡ option_map answer_size o) × ((last ≡ shown o out) × (s ≡ left kv rbp o))
+  line-done p s last r e (x, (y, z)) = rw e (ap Some x, (y, z))
+
+  pub line-not-done : o ≡ None → (None ≡ option_map answer_size o) × ((out ≡ shown o out) × (areas kv rbp ≡ left kv rbp o))
+  line-not-done e = rw e (refl, (refl, refl))
 
 -- ---- a get
 
@@ -95,11 +126,13 @@ module _ (kv rbp key name : List ℕ) where
     count_fits = omega (arith, ap (λ (a : Answer). get_or a.numbers 0 0) e, count-within kv rbp key name 0 (zeros 480))
 
     -- the bytes that the count tells, as the code has them
-    pub get-answer : (line : List ℕ) → name ≡ field line 1
-        → answer_line g.status (take (get_or g.numbers 0 0 - 0) g.output) ≡ (get_line kv rbp key line).answer
+    pub get-answer : (line : List ℕ) (told count : ℕ) → told ≡ g.status → count ≡ get_or g.numbers 0 0 → name ≡ field line 1
+        → answer_line told (take (count - 0) g.output) ≡ (get_line kv rbp key line).answer
     unfolding get_line
-    get-answer line n =
-        ap (answer_line g.status) (front (get_or g.numbers 0 0) g.output)
+    get-answer line told count t k n =
+        ap (λ (s : ℕ). answer_line s (take (count - 0) g.output)) t
+        ∙ ap (λ (m : ℕ). answer_line g.status (take (m - 0) g.output)) k
+        ∙ ap (answer_line g.status) (front (get_or g.numbers 0 0) g.output)
         ∙ ap (λ (a : Answer). answer_line a.status (bytes_given a)) (e ∙ ap (λ (m : List ℕ). (store_get kv rbp key m 0 (zeros 480)).answer) n)
 
 pub get-line-after : (kv rbp key line : List ℕ) → areas kv rbp ≡ (get_line kv rbp key line).after

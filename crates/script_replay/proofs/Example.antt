@@ -19,7 +19,7 @@ use Rattle.spec.specs.Record.{valid_flags, metadata, sealed_iv, sealed_data, sea
 use Rattle.spec.specs.Area.{slot_free, slot_used, slot_valid, slot_holder, make_slot, sized, intact, lookup, has_space, insert_slot}
 use Rattle.spec.specs.Decisions.{set_held, set_effect, remove_held}
 use Rattle.spec.specs.Calls.{areas, store_set, store_remove}
-use Rattle.script_replay.specs.Script.{field, is_command, answer_line}
+use Rattle.script_replay.specs.Script.{field, is_command, command, answer_line}
 use Rattle.script_replay.specs.Replay.{Played, answered, set_line, remove_line, call_line, step, play}
 use Rattle.script_replay.specs.Laws.{Header, SaysSet, printed, example_script, Example}
 use Rattle.script_replay.proofs.ReplayLaws.{replay-exact, set-then-get}
@@ -98,7 +98,7 @@ module _ (kv rbp key : List ℕ) where
   set-any other h = rw h
 
   set_line_lem : (other : List ℕ) → length key ≡ length other → step kv rbp key (line 0) ≡ step kv rbp other (line 0)
-  unfolding hex_value is_hex is_decimal is_command set_line call_line step
+  unfolding hex_value is_hex is_decimal is_command command set_line call_line step
   set_line_lem other h = ap answered (set-any other h)
 
   get-line : (p : Played) → step kv rbp key (line 0) ≡ p → p.answer ≡ answer_line 0 []
@@ -108,7 +108,7 @@ module _ (kv rbp key : List ℕ) where
 
   -- no key is asked for
   remove-line : (other : List ℕ) → step kv rbp key (line 2) ≡ step kv rbp other (line 2)
-  unfolding is_command call_line step
+  unfolding is_command command call_line step
   remove-line other = refl
 
   three : (p q r : Played) → step kv rbp key (line 0) ≡ p → step p.after.kv p.after.rbp key (line 1) ≡ q
@@ -131,7 +131,7 @@ computed : (after_set.answer ≡ answer_line 0 [])
     ≡ 0x30 ∷ 0x09 ∷ 0x0a ∷ 0x30 ∷ 0x09 ∷ 0x34 ∷ 0x31 ∷ 0x34 ∷ 0x32 ∷ 0x0a ∷ 0x36 ∷ 0x09 ∷ 0x0a ∷ [])
 unfolding hex_value is_hex is_decimal places decimal_text refuse_if on_ok valid_name_byte valid_name valid_flags metadata sealed_iv sealed_data
     sealed_tag seal_record slot_free slot_used slot_valid slot_holder make_slot sized intact lookup has_space insert_slot set_held set_effect remove_held store_set
-    store_remove is_command answer_line set_line remove_line call_line step
+    store_remove is_command command answer_line set_line remove_line call_line step
 computed = (refl, refl)
 
 pub example : Example

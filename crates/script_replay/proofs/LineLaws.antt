@@ -14,7 +14,7 @@ use Rattle.text.specs.Decimal.{is_decimal, decimal_value}
 use Rattle.spec.specs.Status.{is_ok, on_ok, answer_of}
 use Rattle.spec.specs.Calls.{areas, store_set, store_get, store_remove}
 use Rattle.buffers.proofs.Split.{split, both}
-use Rattle.script_replay.specs.Script.{fits, field, set_word, get_word, remove_word, is_command, is_number}
+use Rattle.script_replay.specs.Script.{fits, field, set_word, get_word, remove_word, is_command, command, is_number}
 use Rattle.script_replay.specs.Replay.{Played, answered, unreadable, set_line, get_line, remove_line, call_line, step}
 use Rattle.script_replay.specs.Laws.{SaysSet, a_set, a_get, a_remove, printed, LineExact}
 use Rattle.script_replay.proofs.Answered.{get_after}
@@ -40,7 +40,7 @@ module _ (kv rbp key line : List ℕ) where
 
   of_set : (name : List ℕ) (flags : ℕ) (iv value : List ℕ) → length line ≤ 1100 → SaysSet line name flags iv value
       → let o = store_set kv rbp key name flags iv value in step kv rbp key line ≡ printed o.answer.status [] o.after
-  unfolding step call_line set_line
+  unfolding step call_line command set_line
   of_set name flags iv value l h =
       rw (
         le-leb (length line) 1100 l,
@@ -59,7 +59,7 @@ module _ (kv rbp key line : List ℕ) where
   of_get : (name : List ℕ) → length line ≤ 1100 → parts tab line ≡ get_word ∷ name ∷ []
       → let a = (store_get kv rbp key name 0 (zeros 480)).answer in
       step kv rbp key line ≡ printed a.status (take (get_or a.numbers 0 0) a.output) (areas kv rbp)
-  unfolding step call_line get_line
+  unfolding step call_line command get_line
   of_get name l e = rw (
     le-leb (length line) 1100 l,
     other_command line set_word 5 e refl,
@@ -70,7 +70,7 @@ module _ (kv rbp key line : List ℕ) where
 
   of_remove : (name : List ℕ) → length line ≤ 1100 → parts tab line ≡ remove_word ∷ name ∷ []
       → let o = store_remove kv rbp name in step kv rbp key line ≡ printed o.answer.status [] o.after
-  unfolding step call_line remove_line
+  unfolding step call_line command remove_line
   of_remove name l e = rw (
     le-leb (length line) 1100 l,
     other_command line set_word 5 e refl,
@@ -81,7 +81,7 @@ module _ (kv rbp key line : List ℕ) where
   )
 
   pub too_long : fits line ≡ false → step kv rbp key line ≡ unreadable kv rbp
-  unfolding step
+  unfolding step call_line
   too_long e = rw e
 
   -- ---- every line
@@ -116,7 +116,7 @@ module _ (kv rbp key line : List ℕ) where
       → ((name : List ℕ) → length line ≤ 1100 → parts tab line ≡ get_word ∷ name ∷ [] → P (answered (store_get kv rbp key name 0 (zeros 480))))
       → ((name : List ℕ) → length line ≤ 1100 → parts tab line ≡ remove_word ∷ name ∷ [] → P (answered (store_remove kv rbp name)))
       → P (unreadable kv rbp) → P (step kv rbp key line)
-  unfolding step call_line set_line get_line remove_line
+  unfolding step call_line command set_line get_line remove_line
   by-line P set get remove none = split (fits line)
       (λ f. let l = leb-true (length line) 1100 f in
       rw f (split (is_command line 5 set_word)

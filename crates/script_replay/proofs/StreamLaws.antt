@@ -11,7 +11,10 @@ use lib.Seq.{take_all, take-nil}
 use Rattle.text.specs.Parts.{newline, lines}
 use Rattle.spec.specs.Calls.{Areas}
 use Rattle.buffers.proofs.Split.{split, neither}
-use Rattle.script_replay.specs.Script.{fits, bad_header, header}
+use Rattle.script_replay.specs.Script.{fits, header, err_syntax, answer_line}
+use Rattle.script_replay.specs.declared.header.ScriptHeader.{ScriptHeader}
+use Rattle.std.specs.Prelude.{Option, Some, None}
+use Rattle.std.specs.Option.{option_map_or}
 use Rattle.script_replay.specs.Replay.{unreadable, step, empty_areas, play, replay_lines, replay}
 use Rattle.script_replay.specs.Stream.{until_newline, ends_line, taken, held, held_lines}
 use Rattle.script_replay.specs.Laws.{StreamLaws}
@@ -88,10 +91,16 @@ play-cut key s (line ∷ ls) =
       play-cut key (step s.kv s.rbp key line).after ls,
     )
 
+played-cut : (h : Option ScriptHeader) (rest : List (List ℕ))
+    → option_map_or (λ k. play k.key (empty_areas k.slots) (map (take 1101) rest)) h (answer_line err_syntax [])
+    ≡ option_map_or (λ k. play k.key (empty_areas k.slots) rest) h (answer_line err_syntax [])
+played-cut None rest = refl
+played-cut (Some h) rest = play-cut h.key (empty_areas h.slots) rest
+
 enough : (ls : List (List ℕ)) → replay_lines (map (take 1101) ls) ≡ replay_lines ls
 enough [] = refl
 enough (first ∷ rest) =
-    rw (same-cut header bad_header header-long first, play-cut (header first).key (empty_areas (header first).slots) rest)
+    rw (same-cut header None header-long first) (played-cut (header first) rest)
 
 pub stream-laws : StreamLaws
 unfolding replay

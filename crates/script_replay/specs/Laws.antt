@@ -7,7 +7,7 @@
 --   SetThenGet                     what a set printed 0 for, a get of that name prints next, whole
 --   example_script, Example         02's example
 --   StreamLaws                     however the input is cut into reads, and whatever is passed over of a line that is too long
-use Rattle.std.specs.Prelude.{◌≡◌, ◌≢◌, ◌⊎◌, true, false, cond, List, [], ◌∷◌, ◌++◌, map, ℕ, ◌*◌, ◌≤◌, length, get_or, take, drop}
+use Rattle.std.specs.Prelude.{◌≡◌, ◌≢◌, ◌⊎◌, true, cond, List, [], ◌∷◌, ◌++◌, map, ℕ, ◌*◌, ◌≤◌, Some, None, length, get_or, take, drop}
 use Rattle.buffers.specs.Bytes.{zeros}
 use Rattle.text.specs.Parts.{parts, lines}
 use Rattle.text.specs.Hex.{is_hex, hex_bytes, hex_text}
@@ -15,6 +15,7 @@ use Rattle.text.specs.Decimal.{is_decimal, decimal_value, decimal_text}
 use Rattle.spec.specs.Status.{is_listed}
 use Rattle.spec.specs.Calls.{Areas, areas, store_set, store_get, store_remove}
 use Rattle.script_replay.specs.Script.{set_word, get_word, remove_word, header, answer_line, at_front}
+use Rattle.script_replay.specs.declared.header.ScriptHeader.{ScriptHeader}
 use Rattle.script_replay.specs.Replay.{Played, step, play, replay_lines, replay}
 use Rattle.script_replay.specs.Stream.{ends_line, taken, held, held_size, held_lines}
 
@@ -34,9 +35,9 @@ pub record Header (line key : List ℕ) (slots : ℕ) : Type 0 where
   pub most : slots ≤ 64
 
 pub record HeaderExact : Type 0 where
-  pub good : (line key : List ℕ) (slots : ℕ) → Header line key slots → header line ≡ record { ok = true; key = key; slots = slots }
-  pub only : (line : List ℕ) → (header line).ok ≡ true → Header line (header line).key (header line).slots
-  pub bad : (line : List ℕ) → (header line).ok ≡ false → header line ≡ record { ok = false; key = zeros 16; slots = 0 }
+  pub good : (line key : List ℕ) (slots : ℕ) → Header line key slots → header line ≡ Some (record { key = key; slots = slots })
+  pub only : (line : List ℕ) (h : ScriptHeader) → header line ≡ Some h → Header line h.key h.slots
+  pub bad : (line : List ℕ) → ((key : List ℕ) (slots : ℕ) → Header line key slots → ⊥) → header line ≡ None
 
 -- ---- the lines after it
 
@@ -115,7 +116,7 @@ after_lines key s (line ∷ rest) = after_lines key (step s.kv s.rbp key line).a
 pub record ReplayExact : Type 0 where
   -- "a bad first line, or empty input, prints that and stops"
   pub empty : replay [] ≡ answer_line 15 []
-  pub bad : (input first : List ℕ) (rest : List (List ℕ)) → lines input ≡ first ∷ rest → (header first).ok ≡ false → replay input ≡ answer_line 15 []
+  pub bad : (input first : List ℕ) (rest : List (List ℕ)) → lines input ≡ first ∷ rest → header first ≡ None → replay input ≡ answer_line 15 []
   -- "card and chip alike, both empty"
   pub good : (input first key : List ℕ) (slots : ℕ) (rest : List (List ℕ)) → lines input ≡ first ∷ rest → Header first key slots
       → replay input ≡ play key (areas (zeros (slots * 584)) (zeros (slots * 82))) rest

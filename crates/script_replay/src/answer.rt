@@ -17,11 +17,9 @@ pub(crate) fn put_answer(status: u32, data: &[u8], out: &mut [u8; ANSWER_SIZE]) 
     ensures out_after { out.new ≡ at_front (answer_line status «data».now) out.old }
 {
     let mut number = [0u8; 20];
-    let digits = decimal::format_decimal(status as u64, &mut number);
-    let k = digits.count;
+    let k = decimal::format_decimal(status as u64, &mut number).unwrap();
     let mut pairs = [0u8; 960];
-    let written = hex::encode_hex(data, &mut pairs);
-    let n = written.count;
+    let n = hex::encode_hex(data, &mut pairs).unwrap();
     parts::paste(out, 0, &number[0..k]);
     parts::paste(out, k, b"\t");
     parts::paste(out, k + 1, &pairs[0..n]);

@@ -2,10 +2,10 @@
 ghost use Rattle.std.specs.Prelude.{◌≡◌, length, take};
 ghost use Rattle.buffers.specs.Bytes.{zeros};
 ghost use Rattle.script_replay.specs.Script.{at_front};
-ghost use Rattle.script_replay.specs.Stream.{ends_line, «taken» as Stream·taken, held, held_size};
+ghost use Rattle.script_replay.specs.Stream.{ends_line, taken, held, held_size};
 
 use crate::step::LINE_LIMIT;
-use buffers::{numbers, parts};
+use buffers::parts;
 use text::parts::NEWLINE;
 use text::scan;
 
@@ -28,12 +28,12 @@ pub fn held_buffer() -> [u8; HELD_SIZE]
 
 // Takes a read's bytes up to the first newline, behind the first len that are held; the newline is taken, and not held.
 pub fn gather(part: &[u8], len: usize, line: &mut [u8]) -> Gathered
-    ensures value { result ≡ record { len = length (held (length line.old) (take len line.old) part.now); taken = Stream·taken part.now; whole = ends_line part.now } }
+    ensures value { result ≡ record { len = length (held (length line.old) (take len line.old) part.now); taken = taken part.now; whole = ends_line part.now } }
     ensures line_after { line.new ≡ at_front (held (length line.old) (take len line.old) part.now) line.old }
 {
     let end = scan::find(part, 0, part.len(), NEWLINE);
     let size = line.len();
-    let at = numbers::least(len, size);
+    let at = len.min(size);
     let n = parts::copy_fitting(&part[0..end], &mut line[at..size]);
     if end < part.len() {
         return Gathered {

@@ -10,7 +10,7 @@ returns-then-end-part c =
     let part = a.part.now in
     let e = c.find-end.ensures.place in
     let told = c.copy_fitting-n.ensures in
-    let put = held-copied line part _ _ a.len c.least-at.result c.copy_fitting-n.result c.least-at.ensures (part-until part _ e) told.value told.dst_after in
+    let put = held-copied line part _ _ a.len c.min-at.result c.copy_fitting-n.result c.min-at.ensures (part-until part _ e) told.value told.dst_after in
     record { value = line-ended (length line) (take a.len line) part _ _ put.0 (found-until part _ e) c.if-end-part.true; line_after = put.1 }
 
 pub returns : goal.returns
@@ -20,5 +20,5 @@ returns c =
     let part = a.part.now in
     let e = c.find-end.ensures.place in
     let told = c.copy_fitting-n.ensures in
-    let put = held-copied line part _ _ a.len c.least-at.result c.copy_fitting-n.result c.least-at.ensures (part-until part _ e) told.value told.dst_after in
+    let put = held-copied line part _ _ a.len c.min-at.result c.copy_fitting-n.result c.min-at.ensures (part-until part _ e) told.value told.dst_after in
     record { value = line_open (length line) (take a.len line) part _ _ put.0 (found-until part _ e) c.if-end-part.false; line_after = put.1 }
