@@ -17,6 +17,8 @@ pub const LINE_LIMIT: usize = 1100;
 // Half of a line's bytes, which no field in hex gives more than.
 const HEX_SIZE: usize = 550;
 
+// Card, chip and key stay three parameters: in a struct each clause reads `self.old.kv.now` for `kv.old`, and each call of the store takes them apart again.
+
 fn set_line(
     kv: &mut [u8],
     rbp: &mut [u8],
