@@ -1,18 +1,21 @@
 -- Decimal digits, as the loops meet them. Assumes nothing.
-use mathlib.Core.Path.{◌≡◌, refl, sym, ◌∙◌}
+use mathlib.Core.Path.{◌≡◌, refl, ap, ◌∙◌}
 use mathlib.Core.Bool.{true, false}
-use mathlib.Core.List.{List, [], ◌∷◌, ◌++◌, append_assoc}
+use mathlib.Core.List.{List, [], ◌∷◌, ◌++◌}
 use Prim.Native.Nat.{ℕ, zero, suc, ◌+◌, ◌-◌, ◌*◌, ◌/◌, ◌%◌, ◌^◌, ◌≤◌, ◌<◌}
 use native.Mathlib.Numerals.{add-one}
 use native.Mathlib.Omega.{arith}
 use borrow.Author.Tests.{lt-ltb, le-ltb, leb-true, le-leb, lt-leb}
 use lib.Dec.{leb, ltb}
-use lib.ListN.{length, get_or, drop, set, length-set, length-append}
-use lib.Seq.{drop-cons, get_or-set_same, drop-set-lt}
-use Rattle.std.specs.Prelude.{Option, Some, None, IfSome}
+use lib.ListN.{length, get_or, drop, length-append}
+use lib.Seq.{drop-cons}
+use Rattle.std.specs.Prelude.{Option, Some, None, IfSome, IfNone}
+use Rattle.std.specs.Char.{digit_value}
+use Rattle.std.specs.Option.{unwrap_or}
+use Rattle.std.proofs.lemmas.Bool.Decides.{nat_tests}
+use Rattle.text.specs.Hex.{within}
 use Rattle.text.specs.Decimal.{all_digits, is_decimal, value_after, decimal_value, read, places_before, places, digits, decimal_text}
 use Rattle.text.proofs.Split.{split, and-false}
-use Rattle.text.proofs.HexSteps.{within_true, within-below, within-above}
 
 -- ---- one digit read
 
@@ -20,15 +23,19 @@ pub value_grows : (value : ℕ) (s : List ℕ) → value ≤ value_after value s
 value_grows value [] = omega arith
 value_grows value (c ∷ s) = omega (arith, value_grows (10 * value + (c - 0x30)) s)
 
+-- what the library reads, which has digits up to z
+pub digit-read : (c : ℕ) → digit_value c < 10 → (0x30 ≤ c) × (c ≤ 0x39) × (digit_value c ≡ c - 0x30)
+digit-read c h =
+    let low : 0x30 ≤ c = grind (arith, nat_tests) in
+    let high : c ≤ 0x39 = grind (arith, nat_tests) in
+    (low, high, grind (arith, nat_tests))
+
+no-digit : (c : ℕ) → ¬ (digit_value c < 10) → within 0x30 0x39 c ≡ false
+no-digit c h = grind (arith, nat_tests)
+
 module _ (s : List ℕ) (i : ℕ) (h : i < length s) where
-  pub digits-go-on : 0x30 ≤ get_or s i 0 → get_or s i 0 ≤ 0x39 → all_digits (drop (i + 1) s) ≡ all_digits (drop i s)
-  digits-go-on p q = rw (add-one, drop-cons s i 0 h, within_true 0x30 0x39 (get_or s i 0) p q)
-
-  pub digits-below : get_or s i 0 < 0x30 → all_digits (drop i s) ≡ false
-  digits-below p = rw (drop-cons s i 0 h, within-below 0x30 0x39 (get_or s i 0) p)
-
-  pub digits_above : 0x39 < get_or s i 0 → all_digits (drop i s) ≡ false
-  digits_above p = rw (drop-cons s i 0 h, within-above 0x30 0x39 (get_or s i 0) (omega arith) p)
+  pub digits-stop : ¬ (digit_value (get_or s i 0) < 10) → all_digits (drop i s) ≡ false
+  digits-stop n = rw (drop-cons s i 0 h, no-digit (get_or s i 0) n)
 
   pub value-goes-on : (value : ℕ) → value_after (10 * value + (get_or s i 0 - 0x30)) (drop (i + 1) s) ≡ value_after value (drop i s)
   value-goes-on value = rw (add-one, drop-cons s i 0 h)
@@ -78,31 +85,29 @@ digits-good s h e = rw (lt-ltb 0 (length s) h, e)
 
 -- ---- how many digits there are
 
-places-step : (left k rest : ℕ) → left ≡ 20 - k → 0 < rest → rest < 10 ^ left
-    → (k + 1 ≤ 20) × (rest / 10 < 10 ^ (20 - (k + 1))) × (k + 1 + places_before (20 - (k + 1)) (rest / 10) ≡ k + places_before left rest)
-places-step zero k rest e h b = absurd (omega arith)
-places-step (suc left) k rest e h b =
-    let p : 20 - (k + 1) ≡ left = omega arith in
-    let q : 10 ^ suc left ≡ 10 * 10 ^ left = omega arith in
-    rw (p, lt-ltb 0 rest h) (omega arith, omega arith, omega arith)
+power-some : (k : ℕ) → 0 < 10 ^ k
+power-some zero = omega arith
+power-some (suc k) =
+    let p : 10 ^ suc k ≡ 10 * 10 ^ k = omega arith in
+    omega (arith, power-some k)
 
-pub places-turn : (k rest : ℕ) → 0 < rest → rest < 10 ^ (20 - k)
-    → (k + 1 ≤ 20) × (rest / 10 < 10 ^ (20 - (k + 1))) × (k + 1 + places_before (20 - (k + 1)) (rest / 10) ≡ k + places_before (20 - k) rest)
-places-turn k rest h b = places-step (20 - k) k rest refl h b
+places-power : (left k rest : ℕ) → k ≤ left → 10 ^ k ≤ 10 * rest + 9 → rest < 10 ^ k → places_before left rest ≡ k
+places-power zero zero rest h low high = refl
+places-power zero (suc k) rest h low high = absurd (omega arith)
+places-power (suc left) zero rest h low high = rw (le-ltb 0 rest (omega arith))
+places-power (suc left) (suc k) rest h low high =
+    let p : 10 ^ suc k ≡ 10 * 10 ^ k = omega arith in
+    let some : 0 < rest = omega (arith, power-some k) in
+    rw (lt-ltb 0 rest some) (ap suc (places-power left k (rest / 10) (omega arith) (omega arith) (omega arith)))
 
-pub no-places : (left : ℕ) → places_before left 0 ≡ 0
-no-places zero = refl
-no-places (suc left) = refl
+-- by the power of ten that the library finds
+pub places-found : (n : ℕ) (o : Option ℕ) → IfNone o (n ≡ 0) → IfSome o (λ k. 10 ^ k ≤ n) → IfSome o (λ k. n < 10 * 10 ^ k) → IfSome o (λ k. k < 20)
+    → unwrap_or o 0 + 1 ≡ places n
+unfolding places
+places-found n None z low high k = rw z refl
+places-found n (Some k) z low high b = omega (arith, places-power 19 k (n / 10) (omega arith) (omega arith) (omega arith))
 
--- ---- one digit written, from the last to the first
-
-pub digit-put : (l : List ℕ) (k rest : ℕ) → k < length l
-    → digits k (rest / 10) ++ drop k (set l k (0x30 + rest % 10)) ≡ digits (suc k) rest ++ drop (suc k) l
-digit-put l k rest h =
-    let v = 0x30 + rest % 10 in
-    let n : k < length (set l k v) = rw (length-set l k v) h in
-    let e : drop k (set l k v) ≡ v ∷ drop (suc k) l = drop-cons (set l k v) k 0 n ∙ rw (get_or-set_same l k v 0 h, drop-set-lt (suc k) l k v (omega arith)) in
-    rw e (sym (append_assoc (digits k (rest / 10)) (v ∷ []) (drop (suc k) l)))
+-- ---- how long texts are
 
 pub digits-length : (k n : ℕ) → length (digits k n) ≡ k
 digits-length zero n = refl

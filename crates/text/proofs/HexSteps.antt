@@ -2,13 +2,18 @@
 use mathlib.Core.Path.{◌≡◌, refl, sym, ap, ◌∙◌}
 use mathlib.Core.Bool.{true, false}
 use mathlib.Core.List.{List, [], ◌∷◌, ◌++◌}
-use Prim.Native.Nat.{ℕ, zero, suc, ◌+◌, ◌-◌, ◌*◌, ◌/◌, ◌%◌, ◌≤◌, ◌<◌}
+use Prim.Native.Nat.{ℕ, zero, suc, ◌+◌, ◌*◌, ◌/◌, ◌%◌, ◌≤◌, ◌<◌}
 use native.Mathlib.Numerals.{add-one}
 use native.Mathlib.Omega.{arith}
-use borrow.Author.Tests.{ltb-true, lt-ltb, le-ltb, le-leb, lt-leb, eq-eqb, ne_eqb}
+use borrow.Author.Tests.{ltb-true, le-leb, lt-leb, eq-eqb, ne_eqb}
 use lib.Dec.{eqb}
-use lib.ListN.{length, get_or, take, drop, set, take-append-drop}
+use lib.ListN.{length, get_or, take, drop, set}
 use lib.Seq.{drop-cons, append_snoc, take-suc-set, drop-set-lt, lt-length-set, drop-drop}
+use Rattle.std.specs.Char.{digit_value, is_ascii_hexdigit}
+use Rattle.std.specs.List.{list_all}
+use Rattle.std.specs.Option.{unwrap_or}
+use Rattle.std.specs.Prelude.{Option, Some, None, SomeIff}
+use Rattle.std.proofs.lemmas.Bool.Decides.{nat_tests}
 use Rattle.text.specs.Hex.{within, hex_value, is_hex_digit, all_hex_digits, is_hex, hex_bytes, hex_digit, hex_text}
 use Rattle.text.proofs.Split.{both, and-false}
 
@@ -23,32 +28,23 @@ within-below low high c p = rw (lt-leb low c p)
 pub within-above : (low high c : ℕ) → low ≤ high → high < c → within low high c ≡ false
 within-above low high c o p = rw (le-leb low c (omega arith), lt-leb c high p)
 
+-- what the library reads, which has digits up to z
+module _ (c : ℕ) where
+  digit-read : digit_value c < 16 → digit_value c ≡ hex_value c
+  unfolding hex_value
+  digit-read h = grind (arith, nat_tests)
+
+  none-read : ¬ (digit_value c < 16) → 16 ≡ hex_value c
+  unfolding hex_value
+  none-read h = grind (arith, nat_tests)
+
+  pub value-read : (o : Option ℕ) → SomeIff o (digit_value c < 16) (digit_value c) → unwrap_or o 16 ≡ hex_value c
+  value-read None h = none-read h
+  value-read (Some d) h = h.1 ∙ digit-read h.0
+
 pub value-below : (c : ℕ) → c < 0x30 → hex_value c ≡ 16
 unfolding hex_value
 value-below c h = rw (within-below 0x30 0x39 c (omega arith), within-below 0x41 0x46 c (omega arith), within-below 0x61 0x66 c (omega arith))
-
-pub value-decimal : (c : ℕ) → 0x30 ≤ c → c ≤ 0x39 → hex_value c ≡ c - 0x30
-unfolding hex_value
-value-decimal c h k = rw (within_true 0x30 0x39 c h k)
-
-pub value-between : (c : ℕ) → 0x39 < c → c < 0x41 → hex_value c ≡ 16
-unfolding hex_value
-value-between c h k =
-    rw (within-above 0x30 0x39 c (omega arith) (omega arith), within-below 0x41 0x46 c (omega arith), within-below 0x61 0x66 c (omega arith))
-
-pub value-upper : (c : ℕ) → 0x41 ≤ c → c ≤ 0x46 → hex_value c ≡ c - 0x37
-unfolding hex_value
-value-upper c h k = rw (within-above 0x30 0x39 c (omega arith) (omega arith), within_true 0x41 0x46 c h k)
-
-pub value-between-cases : (c : ℕ) → 0x46 < c → c < 0x61 → hex_value c ≡ 16
-unfolding hex_value
-value-between-cases c h k =
-    rw (within-above 0x30 0x39 c (omega arith) (omega arith), within-above 0x41 0x46 c (omega arith) (omega arith), within-below 0x61 0x66 c (omega arith))
-
-pub value-lower : (c : ℕ) → 0x61 ≤ c → c ≤ 0x66 → hex_value c ≡ c - 0x57
-unfolding hex_value
-value-lower c h k =
-    rw (within-above 0x30 0x39 c (omega arith) (omega arith), within-above 0x41 0x46 c (omega arith) (omega arith), within_true 0x61 0x66 c h k)
 
 pub value-above : (c : ℕ) → 0x66 < c → hex_value c ≡ 16
 unfolding hex_value
@@ -57,12 +53,13 @@ value-above c h =
 
 -- ---- whether all are digits
 
-module _ (s : List ℕ) (i : ℕ) (h : i < length s) where
-  pub digits-go-on : hex_value (get_or s i 0) < 16 → all_hex_digits (drop (i + 1) s) ≡ all_hex_digits (drop i s)
-  digits-go-on d = rw (add-one, drop-cons s i 0 h, lt-ltb (hex_value (get_or s i 0)) 16 d)
+digit_test : (c : ℕ) → is_ascii_hexdigit c ≡ is_hex_digit c
+unfolding hex_value
+digit_test c = grind (arith, nat_tests)
 
-  pub digits-stop : 16 ≤ hex_value (get_or s i 0) → all_hex_digits (drop i s) ≡ false
-  digits-stop d = rw (drop-cons s i 0 h, le-ltb (hex_value (get_or s i 0)) 16 d)
+pub digits-all : (s : List ℕ) → list_all is_ascii_hexdigit s ≡ all_hex_digits s
+digits-all [] = refl
+digits-all (c ∷ s) = rw (digit_test c, digits-all s)
 
 pub digit-small : (s : List ℕ) (i : ℕ) → all_hex_digits s ≡ true → i < length s → hex_value (get_or s i 0) < 16
 digit-small [] i e h = absurd (omega arith)
@@ -80,19 +77,10 @@ pub text-length : (s : List ℕ) → length (hex_text s) ≡ 2 * length s
 text-length [] = refl
 text-length (b ∷ s) = omega (arith, text-length s)
 
--- ---- one pair read, one byte written
+-- ---- one byte written
 
 twice : (i : ℕ) → 2 * (i + 1) ≡ suc (suc (2 * i))
 twice i = omega arith
-
-pub put-pair : (s out : List ℕ) (i : ℕ) → 2 * i + 1 < length s → i < length out
-    → take (i + 1) (set out i (16 * hex_value (get_or s (2 * i) 0) + hex_value (get_or s (2 * i + 1) 0))) ++ hex_bytes (drop (2 * (i + 1)) s)
-    ≡ take i out ++ hex_bytes (drop (2 * i) s)
-put-pair s out i hs ho =
-    let v = 16 * hex_value (get_or s (2 * i) 0) + hex_value (get_or s (suc (2 * i)) 0) in
-    let d : drop (2 * i) s ≡ get_or s (2 * i) 0 ∷ get_or s (suc (2 * i)) 0 ∷ drop (suc (suc (2 * i))) s =
-    drop-cons s (2 * i) 0 (omega arith) ∙ ap (λ (l : List ℕ). get_or s (2 * i) 0 ∷ l) (drop-cons s (suc (2 * i)) 0 (omega arith)) in
-    rw (twice i, add-one (2 * i), add-one i, take-suc-set out i v ho, d) (append_snoc (take i out) v (hex_bytes (drop (suc (suc (2 * i))) s)))
 
 pub put_two : (s out : List ℕ) (i a b : ℕ) → i < length s → 2 * i + 1 < length out → a ≡ hex_digit (get_or s i 0 / 16) → b ≡ hex_digit (get_or s i 0 % 16)
     → take (2 * (i + 1)) (set (set out (2 * i) a) (2 * i + 1) b) ++ hex_text (drop (i + 1) s) ≡ take (2 * i) out ++ hex_text (drop i s)
@@ -106,19 +94,12 @@ put_two s out i a b hs ho p q =
     (append_snoc (take m out ++ a ∷ []) b rest ∙ append_snoc (take m out) a (b ∷ rest))
 
 -- what lies behind is as it was
-pub kept-one : (out out₀ : List ℕ) (i v : ℕ) → drop i out ≡ drop i out₀ → drop (i + 1) (set out i v) ≡ drop (i + 1) out₀
-kept-one out out₀ i v e = rw (drop-set-lt (i + 1) out i v (omega arith)) (sym (drop-drop 1 i out) ∙ ap (drop 1) e ∙ drop-drop 1 i out₀)
-
 pub kept-two : (out out₀ : List ℕ) (i a b : ℕ) → drop (2 * i) out ≡ drop (2 * i) out₀
     → drop (2 * (i + 1)) (set (set out (2 * i) a) (2 * i + 1) b) ≡ drop (2 * (i + 1)) out₀
 kept-two out out₀ i a b e =
     let n : 2 * (i + 1) ≡ 2 * i + 2 = omega arith in
     rw (n, drop-set-lt (2 * i + 2) (set out (2 * i) a) (2 * i + 1) b (omega arith), drop-set-lt (2 * i + 2) out (2 * i) a (omega arith))
     (sym (drop-drop 2 (2 * i) out) ∙ ap (drop 2) e ∙ drop-drop 2 (2 * i) out₀)
-
--- the front that is written, then what was behind it
-pub whole : (out out₀ bytes : List ℕ) (n : ℕ) → take n out ≡ bytes → drop n out ≡ drop n out₀ → out ≡ bytes ++ drop n out₀
-whole out out₀ bytes n front back = sym (take-append-drop n out) ∙ rw (front, back)
 
 -- ---- whether a text is whole pairs of digits
 

@@ -1,11 +1,15 @@
 -- The laws of parts and lines. Assumes nothing.
-use mathlib.Core.Path.{◌≡◌, refl, ap, ◌∙◌}
+use mathlib.Core.Path.{◌≡◌, refl, sym, ap, ◌∙◌}
+use mathlib.Core.Bool.{cond}
 use mathlib.Core.List.{List, [], ◌∷◌, ◌++◌}
-use Prim.Native.Nat.{ℕ, zero, suc, ◌+◌, ◌≤◌, ◌<◌}
+use Prim.Native.Nat.{ℕ, zero, suc, ◌+◌, ◌-◌, ◌≤◌, ◌<◌}
 use native.Mathlib.Omega.{arith}
-use borrow.Author.Tests.{eqb-true, eqb-false, ne_eqb}
+use borrow.Author.Tests.{eqb-true, eqb-false, eq-eqb, ne_eqb}
 use lib.Dec.{eqb}
 use lib.ListN.{length, get_or, take, drop}
+use Rattle.std.specs.Prelude.{Some, count_by, ◌==◌, slice_get}
+use Rattle.std.proofs.lemmas.List.Recursion.{is_count_by}
+use Rattle.std.proofs.lemmas.Option.{slice_get_within, get_or_from_slice_get}
 use Rattle.text.specs.Parts.{before, cut, parts, lines, newline, part_start}
 use Rattle.text.specs.Laws.{ended, separators, Free, PartLaws, LineLaws}
 use Rattle.text.proofs.Split.{split}
@@ -67,6 +71,12 @@ module _ (separator : ℕ) where
       (λ e. rw e (omega (arith, number s)))
       (λ e. rw e (before-some x (parts separator s) (parts-some s) ∙ number s))
 
+  separators-count : (s : List ℕ) → separators separator s ≡ count_by (λ x. x == separator) s
+  separators-count = is_count_by (separators separator) (λ x. x == separator) refl (λ x s. ap (λ (n : ℕ). cond (eqb x separator) n (separators separator s)) (omega arith))
+
+  pub count-parts : (s : List ℕ) → length (parts separator s) ≡ count_by (λ x. x == separator) s + 1
+  count-parts s = number s ∙ ap (λ (n : ℕ). n + 1) (separators-count s)
+
   -- ---- places
 
   first-there : (s : List ℕ) → take (length (get_or (parts separator s) 0 [])) s ≡ get_or (parts separator s) 0 []
@@ -125,6 +135,50 @@ whole (x ∷ s) = split (eqb x newline)
 lacking : (s : List ℕ) (x : ℕ) → (x ≡ newline → ⊥) → lines (s ++ x ∷ []) ≡ lines (s ++ x ∷ newline ∷ [])
 lacking [] x h = rw (ne_eqb x newline h)
 lacking (y ∷ s) x h = rw (lacking s x h)
+
+before-any : (x : ℕ) (ps : List (List ℕ)) → 0 < length (before x ps)
+before-any x [] = omega arith
+before-any x (p ∷ ps) = omega arith
+
+lines-any : (x : ℕ) (s : List ℕ) → 0 < length (lines (x ∷ s))
+lines-any x s = split (eqb x newline) (λ e. rw e (omega arith)) (λ e. rw e (before-any x (lines s)))
+
+-- how many there are, by the last byte
+ended-count : (s : List ℕ) (k : ℕ) → length s ≡ suc k → get_or s k 0 ≡ newline → length (lines s) ≡ separators newline s
+ended-count [] k h e = absurd (omega arith)
+ended-count (x ∷ []) zero h e = rw (eq-eqb x newline e)
+ended-count (x ∷ []) (suc k) h e = absurd (omega arith)
+ended-count (x ∷ y ∷ s) zero h e = absurd (omega arith)
+ended-count (x ∷ y ∷ s) (suc k) h e =
+    let rest = ended-count (y ∷ s) k (omega arith) e in
+    split (eqb x newline)
+    (λ f. rw f (omega arith))
+    (λ f. rw f (before-some x (lines (y ∷ s)) (lines-any y s) ∙ rest))
+
+open-count : (s : List ℕ) (k : ℕ) → length s ≡ suc k → (get_or s k 0 ≡ newline → ⊥) → length (lines s) ≡ separators newline s + 1
+open-count [] k h e = absurd (omega arith)
+open-count (x ∷ []) zero h e = rw (ne_eqb x newline e)
+open-count (x ∷ []) (suc k) h e = absurd (omega arith)
+open-count (x ∷ y ∷ s) zero h e = absurd (omega arith)
+open-count (x ∷ y ∷ s) (suc k) h e =
+    let rest = open-count (y ∷ s) k (omega arith) e in
+    split (eqb x newline)
+    (λ f. rw f (omega arith))
+    (λ f. rw f (before-some x (lines (y ∷ s)) (lines-any y s) ∙ rest))
+
+-- the same, by what the library finds last
+module _ (s : List ℕ) (x : ℕ) (last : Some x ≡ slice_get s (length s - 1)) where
+  within : length s ≡ suc (length s - 1)
+  within = let h = slice_get_within s (length s - 1) x (sym last) in omega arith
+
+  here : get_or s (length s - 1) 0 ≡ x
+  here = get_or_from_slice_get s (length s - 1) x 0 (sym last)
+
+  pub count-ended : x ≡ newline → length (lines s) ≡ count_by (λ y. y == newline) s
+  count-ended e = ended-count s (length s - 1) within (here ∙ e) ∙ separators-count newline s
+
+  pub count-open : (x ≡ newline → ⊥) → length (lines s) ≡ count_by (λ y. y == newline) s + 1
+  count-open e = open-count s (length s - 1) within (λ p. e (sym here ∙ p)) ∙ ap (λ (n : ℕ). n + 1) (separators-count newline s)
 
 pub line-laws : LineLaws
 line-laws = record {

@@ -3,36 +3,19 @@ use mathlib.Core.Path.{◌≡◌, refl, sym, ap, ◌∙◌}
 use mathlib.Core.Bool.{cond}
 use mathlib.Core.List.{List, [], ◌∷◌}
 use Prim.Native.Nat.{ℕ, zero, suc, ◌+◌, ◌-◌, ◌≤◌, ◌<◌}
-use native.Mathlib.Numerals.{add-one}
 use native.Mathlib.Omega.{arith}
-use borrow.Author.Tests.{eq-eqb, ne_eqb}
 use lib.Dec.{eqb}
 use lib.ListN.{length, get_or, take, drop}
-use lib.Seq.{drop-cons, take-length}
+use lib.Seq.{take-length}
 use Rattle.text.specs.Scan.{index_of, slice}
-use Rattle.text.specs.Parts.{before, cut, parts, newline, lines, part_start}
+use Rattle.text.specs.Parts.{before, parts, newline, lines, part_start}
 use Rattle.text.proofs.Split.{split}
 
--- ---- how many there are, from the last byte to the first
+-- ---- how many there are
 
 pub before-some : (x : ℕ) (ps : List (List ℕ)) → 0 < length ps → length (before x ps) ≡ length ps
 before-some x [] h = absurd (omega arith)
 before-some x (p ∷ ps) h = refl
-
-before-none : (x : ℕ) (ps : List (List ℕ)) → length ps ≡ 0 → length (before x ps) ≡ 1
-before-none x [] h = refl
-before-none x (p ∷ ps) h = absurd (omega arith)
-
-module _ (separator : ℕ) (end : List (List ℕ)) (s : List ℕ) (i : ℕ) (h : i < length s) where
-  pub count-ended : get_or s i 0 ≡ separator → length (cut separator end (drop i s)) ≡ suc (length (cut separator end (drop (suc i) s)))
-  count-ended e = rw (drop-cons s i 0 h, eq-eqb (get_or s i 0) separator e)
-
-  pub count-longer : (get_or s i 0 ≡ separator → ⊥) → 0 < length (cut separator end (drop (suc i) s))
-      → length (cut separator end (drop i s)) ≡ length (cut separator end (drop (suc i) s))
-  count-longer e some = rw (drop-cons s i 0 h, ne_eqb (get_or s i 0) separator e) (before-some (get_or s i 0) (cut separator end (drop (suc i) s)) some)
-
-  pub count-first : (get_or s i 0 ≡ separator → ⊥) → length (cut separator end (drop (suc i) s)) ≡ 0 → length (cut separator end (drop i s)) ≡ 1
-  count-first e none = rw (drop-cons s i 0 h, ne_eqb (get_or s i 0) separator e) (before-none (get_or s i 0) (cut separator end (drop (suc i) s)) none)
 
 -- ---- where part k starts
 
@@ -44,19 +27,6 @@ pub start-within : (separator : ℕ) (s : List ℕ) (k : ℕ) → part_start sep
 start-within separator [] k = omega arith
 start-within separator (x ∷ s) zero = omega arith
 start-within separator (x ∷ s) (suc k) = let h = start-within separator s (cond (eqb x separator) k (suc k)) in omega arith
-
--- one turn, with the separators that are left to pass before it and after it
-module _ (separator : ℕ) (s : List ℕ) (i left next : ℕ) (h : i < length s) (some : 0 < left) where
-  pub start-ended : get_or s i 0 ≡ separator → next ≡ left - 1 → i + 1 + part_start separator (drop (i + 1) s) next ≡ i + part_start separator (drop i s) left
-  start-ended e n =
-      let p : left ≡ suc next = omega arith in
-      rw (p, add-one, drop-cons s i 0 h, eq-eqb (get_or s i 0) separator e) (omega arith)
-
-  pub start-longer : (get_or s i 0 ≡ separator → ⊥) → next ≡ left
-      → i + 1 + part_start separator (drop (i + 1) s) next ≡ i + part_start separator (drop i s) left
-  start-longer e n =
-      let p : left ≡ suc (left - 1) = omega arith in
-      rw (n, p, add-one, drop-cons s i 0 h, ne_eqb (get_or s i 0) separator e) (omega arith)
 
 -- ---- part k is the first of the text from its start on
 

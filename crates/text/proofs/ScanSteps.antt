@@ -1,29 +1,33 @@
--- The place of a byte, as the loop that looks for it meets it. Assumes nothing.
-use mathlib.Core.Path.{◌≡◌, refl, ap, ◌∙◌}
-use mathlib.Core.List.{List, [], ◌∷◌}
-use Prim.Native.Nat.{ℕ, suc, ◌+◌, ◌≤◌, ◌<◌}
+-- The place of a byte is the place that the library finds. Assumes nothing.
+use mathlib.Core.Path.{◌≡◌, refl, ap, ◌∙◌, sym}
+use mathlib.Core.Bool.{cond, not}
+use mathlib.Core.List.{List}
+use Prim.Native.Nat.{ℕ, ◌+◌, ◌-◌, ◌≤◌}
 use native.Mathlib.Omega.{arith}
-use borrow.Author.Tests.{eq-eqb, ne_eqb}
-use lib.ListN.{length, get_or, take, length-take, drop_of_length-le}
-use lib.Seq.{drop-cons}
-use Rattle.std.proofs.lemmas.List.{get_or-take}
+use borrow.Author.Tests.{ltb-false}
+use lib.Dec.{eqb, ltb}
+use lib.ListN.{length, take, drop}
+use Rattle.std.specs.Prelude.{position, ◌==◌}
+use Rattle.std.specs.List.{position_or_len}
+use Rattle.std.specs.Option.{unwrap_or}
+use Rattle.std.proofs.lemmas.List.Recursion.{is_position_or_len}
+use Rattle.std.proofs.lemmas.List.Sums.{prefix_len-le-length}
+use Rattle.std.proofs.lemmas.List.{drop-take}
 use Rattle.text.specs.Scan.{index_of, slice}
+use Rattle.text.proofs.Split.{split}
 
-module _ (byte : ℕ) (s : List ℕ) (i to : ℕ) (h : i < to) (k : to ≤ length s) where
-  slice-cons : slice i to s ≡ get_or s i 0 ∷ slice (suc i) to s
-  slice-cons =
-      drop-cons (take to s) i 0 (omega (arith, length-take to s))
-      ∙ ap (λ (x : ℕ). x ∷ slice (suc i) to s) (get_or-take to s i 0 h)
+index-place : (byte : ℕ) (s : List ℕ) → index_of byte s ≡ position_or_len (λ x. x == byte) s
+index-place byte = is_position_or_len (index_of byte) (λ x. x == byte) refl (λ x xs. ap (cond (eqb x byte) 0) (omega arith))
 
-  pub index-here : get_or s i 0 ≡ byte → index_of byte (slice i to s) ≡ 0
-  index-here e = rw (slice-cons, eq-eqb (get_or s i 0) byte e) refl
+pub index-found : (byte : ℕ) (s : List ℕ) → unwrap_or (position (λ x. x == byte) s) (length s) ≡ index_of byte s
+index-found byte s =
+    let place = position_or_len (λ x. x == byte) s in
+    split (ltb place (length s))
+    (λ e. rw e (sym (index-place byte s)))
+    (λ e. rw e (omega (arith, ltb-false place (length s) e, prefix_len-le-length (λ x. not (x == byte)) s, index-place byte s)))
 
-  pub index_behind : (get_or s i 0 ≡ byte → ⊥) → i + 1 + index_of byte (slice (i + 1) to s) ≡ i + index_of byte (slice i to s)
-  index_behind e =
-      let n : i + 1 ≡ suc i = omega arith in
-      rw (n, slice-cons, ne_eqb (get_or s i 0) byte e) (omega arith)
-
-pub index-none : (byte : ℕ) (s : List ℕ) (to : ℕ) → index_of byte (slice to to s) ≡ 0
-index-none byte s to =
-    let none : slice to to s ≡ [] = drop_of_length-le (take to s) {i = to} (omega (arith, length-take to s)) in
-    rw none refl
+-- a part as the code has it
+pub slice-part : (from to : ℕ) (s : List ℕ) → from ≤ to → take (to - from) (drop from s) ≡ slice from to s
+slice-part from to s h =
+    let e : from + (to - from) ≡ to = omega arith in
+    sym (drop-take from (to - from) s) ∙ ap (λ (k : ℕ). drop from (take k s)) e

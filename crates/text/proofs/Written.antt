@@ -7,10 +7,10 @@ use borrow.Author.Tests.{le-leb, lt-leb}
 use native.Mathlib.Omega.{arith}
 use lib.ListN.{length, drop, length-append}
 use lib.Seq.{drop_at}
-use Rattle.std.specs.Prelude.{Option, Some, None, IfSome}
+use Rattle.std.specs.Prelude.{Some, None}
 use Rattle.text.specs.Written.{writes, answer, left}
 use Rattle.text.specs.Laws.{WriteLaws}
-use Rattle.text.proofs.Split.{split, and-false}
+use Rattle.text.proofs.Split.{and-false}
 
 module _ (good : Bool) (bytes out : List ℕ) where
   refused-both : writes good bytes out ≡ false → (None ≡ answer good bytes out) × (out ≡ left good bytes out)
@@ -27,15 +27,6 @@ module _ (good : Bool) (bytes out : List ℕ) where
       → (Some n ≡ answer good bytes out) × (bytes ++ drop n out ≡ left good bytes out)
   unfolding answer left
   wrote n g e h = rw (g, le-leb (length bytes) (length out) h, e) (refl, refl)
-
-  -- what is counted is in the buffer
-  count-within : IfSome (answer good bytes out) (λ n. n ≤ length (left good bytes out))
-  unfolding answer left
-  count-within = split (writes good bytes out) (λ e. rw e (omega (arith, length-append bytes (drop (length bytes) out)))) (λ e. rw e tt)
-
-  pub all_three : (r : Option ℕ) (last : List ℕ) → r ≡ answer good bytes out → last ≡ left good bytes out
-      → (r ≡ answer good bytes out) × ((last ≡ left good bytes out) × IfSome r (λ n. n ≤ length last))
-  all_three r last p q = (p, (q, rw (p, q) count-within))
 
 -- ---- the laws
 

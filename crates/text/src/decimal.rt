@@ -3,40 +3,22 @@ ghost use Rattle.std.specs.Prelude.{◌≡◌, true, ◌++◌, ◌≤◌, IfSome
 ghost use Rattle.text.specs.Decimal.{read, places as Decimal·places, digits, decimal_text};
 ghost use Rattle.text.specs.Written.{answer, left};
 
-fn wide(c: u8) -> u64
-    ensures { result ≡ c }
-{
-    c as u64
-}
-
-// The number that one or more digits stand for, leading zeros allowed. Refused: no digits, another byte, and a number over most. The tests divide
-// and subtract, so that nothing wraps, and stop at once: what is over most after some digits stays over it.
+// The number that one or more digits stand for, leading zeros allowed. Refused: no digits, another byte, and a number over most, at once,
+// since what is over most after some digits stays over it.
 pub fn parse_decimal(text: &[u8], most: u64) -> Option<u64>
     ensures value { result ≡ read text.now most }
     ensures value_le_most { IfSome result (λ value. value ≤ most) }
 {
-    if text.len() < 1 {
+    if text.is_empty() {
         return None;
     }
     let mut value: u64 = 0;
-    let mut i = 0;
-    while i < text.len() {
-        let c = text[i];
-        if c < b'0' {
+    for c in text {
+        let digit = char::from(*c).to_digit(10)?;
+        value = value.checked_mul(10)?.checked_add(u64::from(digit))?;
+        if most < value {
             return None;
         }
-        if b'9' < c {
-            return None;
-        }
-        if most / 10 < value {
-            return None;
-        }
-        let d = wide(c - b'0');
-        if most - 10 * value < d {
-            return None;
-        }
-        value = 10 * value + d;
-        i += 1;
     }
     Some(value)
 }
@@ -45,13 +27,7 @@ pub fn parse_decimal(text: &[u8], most: u64) -> Option<u64>
 fn places(n: u64) -> usize
     ensures { result ≡ Decimal·places n }
 {
-    let mut k: usize = 1;
-    let mut rest = n / 10;
-    while 0 < rest {
-        rest = rest / 10;
-        k += 1;
-    }
-    k
+    n.checked_ilog10().unwrap_or(0) as usize + 1
 }
 
 // The last k digits of a number, from the last to the first.
@@ -60,11 +36,9 @@ fn put_decimal(n: u64, k: usize, out: &mut [u8])
     ensures { out.new ≡ digits k n ++ drop k out.old }
 {
     let mut rest = n;
-    let mut i = k;
-    while 0 < i {
-        i -= 1;
+    for i in (0..k).rev() {
         out[i] = b'0' + (rest % 10) as u8;
-        rest = rest / 10;
+        rest /= 10;
     }
 }
 

@@ -10,25 +10,7 @@ ghost use Rattle.text.specs.Written.{answer, left};
 fn digit_value(c: u8) -> u8
     ensures { result ≡ hex_value c }
 {
-    if c < b'0' {
-        return 16;
-    }
-    if c <= b'9' {
-        return c - b'0';
-    }
-    if c < b'A' {
-        return 16;
-    }
-    if c <= b'F' {
-        return c - b'A' + 10;
-    }
-    if c < b'a' {
-        return 16;
-    }
-    if c <= b'f' {
-        return c - b'a' + 10;
-    }
-    16
+    char::from(c).to_digit(16).unwrap_or(16) as u8
 }
 
 fn digit(d: u8) -> u8
@@ -38,27 +20,12 @@ fn digit(d: u8) -> u8
     if d < 10 { b'0' + d } else { b'a' - 10 + d }
 }
 
-fn all_digits(text: &[u8]) -> bool
-    ensures { result ≡ all_hex_digits text.now }
+fn put_pairs(text: &[u8], out: &mut [u8])
+    requires { (length text.now ≡ 2 * length out.old) × (all_hex_digits text.now ≡ true) }
+    ensures { out.new ≡ hex_bytes text.now }
 {
-    let mut i = 0;
-    while i < text.len() {
-        if 15 < digit_value(text[i]) {
-            return false;
-        }
-        i += 1;
-    }
-    true
-}
-
-fn put_pairs(text: &[u8], n: usize, out: &mut [u8])
-    requires { (length text.now ≡ 2 * n) × (n ≤ length out.old) × (all_hex_digits text.now ≡ true) }
-    ensures { out.new ≡ hex_bytes text.now ++ drop n out.old }
-{
-    let mut i = 0;
-    while i < n {
-        out[i] = 16 * digit_value(text[2 * i]) + digit_value(text[2 * i + 1]);
-        i += 1;
+    for (i, byte) in out.iter_mut().enumerate() {
+        *byte = 16 * digit_value(text[2 * i]) + digit_value(text[2 * i + 1]);
     }
 }
 
@@ -76,10 +43,10 @@ pub fn decode_hex(text: &[u8], out: &mut [u8]) -> Option<usize>
     if out.len() < n {
         return None;
     }
-    if !all_digits(text) {
+    if !text.iter().all(|c| c.is_ascii_hexdigit()) {
         return None;
     }
-    put_pairs(text, n, out);
+    put_pairs(text, &mut out[0..n]);
     Some(n)
 }
 
@@ -87,11 +54,9 @@ fn put_digits(data: &[u8], out: &mut [u8])
     requires { 2 * length «data».now ≤ length out.old }
     ensures { out.new ≡ hex_text «data».now ++ drop (2 * length «data».now) out.old }
 {
-    let mut i = 0;
-    while i < data.len() {
-        out[2 * i] = digit(data[i] / 16);
-        out[2 * i + 1] = digit(data[i] % 16);
-        i += 1;
+    for (i, byte) in data.iter().enumerate() {
+        out[2 * i] = digit(*byte / 16);
+        out[2 * i + 1] = digit(*byte % 16);
     }
 }
 

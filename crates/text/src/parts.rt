@@ -12,15 +12,7 @@ pub const TAB: u8 = b'\t';
 pub fn part_count(s: &[u8], separator: u8) -> usize
     ensures { result ≡ length (parts separator s.now) }
 {
-    let mut n: usize = 1;
-    let mut i = s.len();
-    while 0 < i {
-        i -= 1;
-        if s[i] == separator {
-            n += 1;
-        }
-    }
-    n
+    s.iter().filter(|x| **x == separator).count() + 1
 }
 
 // Where part k starts, or the length where there are not so many parts.
@@ -28,17 +20,15 @@ fn part_start(s: &[u8], separator: u8, k: usize) -> usize
     ensures { result ≡ part_start separator s.now k }
 {
     let mut left = k;
-    let mut i = 0;
-    while i < s.len() {
-        if left < 1 {
+    for (i, x) in s.iter().enumerate() {
+        if left == 0 {
             return i;
         }
-        if s[i] == separator {
+        if *x == separator {
             left -= 1;
         }
-        i += 1;
     }
-    i
+    s.len()
 }
 
 // Part k, counted from 0; where there are not so many, the empty part at the end.
@@ -50,22 +40,15 @@ pub fn part(s: &[u8], separator: u8, k: usize) -> &[u8]
     &s[from..end]
 }
 
-// How many lines there are: each ends with a newline, which the last may lack. Read from the last byte to the first, where a byte with no newline
-// behind it begins the last line.
+// How many lines there are: each ends with a newline, which the last may lack.
 pub fn line_count(text: &[u8]) -> usize
     ensures { result ≡ length (lines text.now) }
 {
-    let mut n: usize = 0;
-    let mut i = text.len();
-    while 0 < i {
-        i -= 1;
-        if text[i] == NEWLINE {
-            n += 1;
-        } else if n < 1 {
-            n = 1;
-        }
+    let ended = text.iter().filter(|x| **x == NEWLINE).count();
+    match text.last() {
+        Some(last) if *last != NEWLINE => ended + 1,
+        _ => ended,
     }
-    n
 }
 
 // Line k, counted from 0, without its newline; where there are not so many, the empty part at the end.

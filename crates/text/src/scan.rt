@@ -8,12 +8,6 @@ pub fn find(s: &[u8], from: usize, to: usize, byte: u8) -> usize
     ensures place { result ≡ from + index_of byte (slice from to s.now) }
     ensures result_le_to { result ≤ to }
 {
-    let mut i = from;
-    while i < to {
-        if s[i] == byte {
-            return i;
-        }
-        i += 1;
-    }
-    i
+    let part = &s[from..to];
+    from + part.iter().position(|x| *x == byte).unwrap_or(part.len())
 }

@@ -3,7 +3,7 @@ use mathlib.Core.Path.{refl, sym, ◌∙◌}
 use mathlib.Core.Bool.{true}
 use native.Mathlib.Omega.{arith}
 use Rattle.text.specs.Decimal.{decimal_text}
-use Rattle.text.proofs.Written.{no_room, wrote, all_three}
+use Rattle.text.proofs.Written.{no_room, wrote}
 use Rattle.text.proofs.DecimalSteps.{text-length, text-digits}
 use Rattle.text.proofs.decimal.format_decimal.Goals as goal
 
@@ -13,8 +13,7 @@ returns-then-out-k c =
     let size = text-length a.value in
     let count = c.places-k.ensures in
     let told = no_room true (decimal_text a.value) a.out.now (omega arith) in
-    let all = all_three true (decimal_text a.value) a.out.now _ _ told.0 told.1 in
-    record { value = all.0; out_after = all.1.0; count_in_bounds = all.1.1 }
+    record { value = told.0; out_after = told.1; count_in_bounds = tt }
 
 pub returns : goal.returns
 returns c =
@@ -22,5 +21,4 @@ returns c =
     let size = text-length a.value in
     let count = c.places-k.ensures in
     let told = wrote true (decimal_text a.value) a.out.now _ refl (count ∙ sym size) (omega arith) in
-    let all = all_three true (decimal_text a.value) a.out.now _ _ told.0 (c.put_decimal.ensures ∙ text-digits a.value _ _ count ∙ told.1) in
-    record { value = all.0; out_after = all.1.0; count_in_bounds = all.1.1 }
+    record { value = told.0; out_after = c.put_decimal.ensures ∙ text-digits a.value _ _ count ∙ told.1; count_in_bounds = omega arith }

@@ -1,73 +1,60 @@
--- `text::decimal::parse_decimal`. The invariant: the digits from `i` on, read after those that gave `value`, give the text's value.
-use mathlib.Core.Path.{◌≡◌, refl, sym, ◌∙◌}
+-- `text::decimal::parse_decimal`. The invariant: the digits that are left, read after those that gave `value`, give the text's value.
+use mathlib.Core.Path.{◌≡◌, sym, ◌∙◌}
+use Prim.Native.Nat.{◌+◌, ◌-◌, ◌*◌, ◌<◌}
 use native.Mathlib.Omega.{arith}
-use lib.ListN.{length}
+use borrow.Author.Tests.{eqb-true, eqb-false}
+use lib.ListN.{length, get_or}
 use lib.Seq.{drop-length}
 use Rattle.text.specs.Decimal.{decimal_value}
-use Rattle.text.proofs.DecimalSteps.{digits-go-on, digits-below, digits_above, value-goes-on, value-over, empty-bad, other-bad, digits-good}
-use Rattle.text.proofs.DecimalSteps.{read-bad, read-over, read-good, with_bound}
-use borrow.Author.Rules.{rules}
+use Rattle.text.proofs.DecimalSteps.{digit-read, digits-stop, value-over, empty-bad, other-bad, digits-good, read-bad, read-over, read-good}
 use Rattle.text.proofs.decimal.parse_decimal.Goals as goal
 
-pub returns-then-text-lt1 : goal.returns-then-text-lt1
-returns-then-text-lt1 c =
+pub returns-then-is_empty-clause-value : goal.returns-then-is_empty-clause-value
+returns-then-is_empty-clause-value c =
     let a = c.args in
-    let all = with_bound a.text.now a.most _ (read-bad a.text.now a.most (empty-bad a.text.now (omega arith))) in
-    record { value = all.0; value_le_most = all.1 }
+    let none = eqb-true (length a.text.now) 0 (sym c.is_empty.ensures ∙ c.if-is_empty.true) in
+    read-bad a.text.now a.most (empty-bad a.text.now (omega arith))
 
-pub loop-i-init : goal.loop-i-init
-loop-i-init c = (search rules, search rules, refl, refl)
-
-pub returns-then-c-lt48 : goal.returns-then-c-lt48
-returns-then-c-lt48 c =
+pub returns-in_err-digit-clause-value : goal.returns-in_err-digit-clause-value
+returns-in_err-digit-clause-value c =
     let a = c.args in
-    let l = c.loop-i in
-    let other = sym l.invariant.3 ∙ digits-below a.text.now l.i (omega arith) (omega arith) in
-    let all = with_bound a.text.now a.most _ (read-bad a.text.now a.most (other-bad a.text.now other)) in
-    record { value = all.0; value_le_most = all.1 }
+    let l = c.loop-c in
+    let other = sym l.invariant.2 ∙ digits-stop a.text.now l.c-index (omega arith) (rw c.from.ensures at c.in_err-digit.ensures.value) in
+    c.from_residual.ensures ∙ read-bad a.text.now a.most (other-bad a.text.now other)
 
-pub returns-then-c-gt57 : goal.returns-then-c-gt57
-returns-then-c-gt57 c =
+pub returns-in_err-checked_mul-clause-value : goal.returns-in_err-checked_mul-clause-value
+returns-in_err-checked_mul-clause-value c =
     let a = c.args in
-    let l = c.loop-i in
-    let other = sym l.invariant.3 ∙ digits_above a.text.now l.i (omega arith) (omega arith) in
-    let all = with_bound a.text.now a.most _ (read-bad a.text.now a.most (other-bad a.text.now other)) in
-    record { value = all.0; value_le_most = all.1 }
+    let l = c.loop-c in
+    let over = value-over a.text.now l.c-index (omega arith) l.value a.most (omega (arith, c.in_err-checked_mul.ensures)) in
+    c.from_residual-in_err-checked_mul.ensures ∙ read-over a.text.now a.most (omega (arith, l.invariant.1))
 
-pub returns-then-most-value : goal.returns-then-most-value
-returns-then-most-value c =
+pub returns-in_err-value-clause-value : goal.returns-in_err-value-clause-value
+returns-in_err-value-clause-value c =
     let a = c.args in
-    let l = c.loop-i in
-    let over = value-over a.text.now l.i (omega arith) l.value a.most (omega arith) in
-    let all = with_bound a.text.now a.most _ (read-over a.text.now a.most (omega (arith, l.invariant.2))) in
-    record { value = all.0; value_le_most = all.1 }
+    let l = c.loop-c in
+    let d = rw c.from.ensures at c.in_ok-digit.ensures.value in
+    let read = digit-read (get_or a.text.now l.c-index 0) d.0 in
+    let next : a.most < 10 * l.value + (get_or a.text.now l.c-index 0 - 0x30) = omega (arith, read.2, d.1, c.from-in-loop-c.ensures, c.in_ok-checked_mul.ensures, c.in_err-value.ensures) in
+    let over = value-over a.text.now l.c-index (omega arith) l.value a.most next in
+    c.from_residual-in_err-value.ensures ∙ read-over a.text.now a.most (omega (arith, l.invariant.1))
 
-pub returns-then-most-value-2 : goal.returns-then-most-value-2
-returns-then-most-value-2 c =
-    let digit = c.wide-d.ensures in
+pub returns-then-most-value-clause-value : goal.returns-then-most-value-clause-value
+returns-then-most-value-clause-value c =
     let a = c.args in
-    let l = c.loop-i in
-    let over = value-over a.text.now l.i (omega arith) l.value a.most (omega arith) in
-    let all = with_bound a.text.now a.most _ (read-over a.text.now a.most (omega (arith, l.invariant.2))) in
-    record { value = all.0; value_le_most = all.1 }
+    let l = c.loop-c in
+    let d = rw c.from.ensures at c.in_ok-digit.ensures.value in
+    let read = digit-read (get_or a.text.now l.c-index 0) d.0 in
+    let next : a.most < 10 * l.value + (get_or a.text.now l.c-index 0 - 0x30) = omega (arith, read.2, d.1, c.from-in-loop-c.ensures, c.in_ok-checked_mul.ensures, c.in_ok-value.ensures) in
+    let over = value-over a.text.now l.c-index (omega arith) l.value a.most next in
+    read-over a.text.now a.most (omega (arith, l.invariant.1))
 
-pub loop-i-preserved : goal.loop-i-preserved
-loop-i-preserved c =
+pub returns-clause-value : goal.returns-clause-value
+returns-clause-value c =
     let a = c.args in
-    let l = c.loop-i in
-    let digit = c.wide-d.ensures in (
-      search rules,
-      omega arith,
-      rw digit (value-goes-on a.text.now l.i (omega arith) l.value ∙ l.invariant.2),
-      digits-go-on a.text.now l.i (omega arith) (omega arith) (omega arith) ∙ l.invariant.3,
-    )
-
-pub returns : goal.returns
-returns c =
-    let a = c.args in
-    let l = c.loop-i in
-    let e : l.i ≡ length a.text.now = omega arith in
-    let value : l.value ≡ decimal_value a.text.now = rw (e, drop-length) at l.invariant.2 in
-    let good = digits-good a.text.now (omega arith) (sym (rw (e, drop-length) at l.invariant.3)) in
-    let all = with_bound a.text.now a.most _ (rw value (read-good a.text.now a.most good (omega arith))) in
-    record { value = all.0; value_le_most = all.1 }
+    let l = c.loop-c in
+    let some = eqb-false (length a.text.now) 0 (sym c.is_empty.ensures ∙ c.if-is_empty.false) in
+    let e : l.c-index ≡ length a.text.now = omega arith in
+    let value : l.value ≡ decimal_value a.text.now = rw (e, drop-length) at l.invariant.1 in
+    let good = digits-good a.text.now (omega arith) (sym (rw (e, drop-length) at l.invariant.2)) in
+    rw value (read-good a.text.now a.most good (omega arith))

@@ -1,14 +1,10 @@
--- `text::hex::put_pairs`. The invariant: the bytes in place, then those of the pairs that are left, are the text's; what lies behind is as it was.
+-- `text::hex::put_pairs`. The invariant: the bytes in place, then those of the pairs that are left, are the text's.
 use mathlib.Core.Path.{◌≡◌}
 use mathlib.Core.List.{◌++◌}
-use Prim.Native.Nat.{◌-◌, ◌*◌, ◌≤◌}
-use lib.ListN.{length, take, drop}
+use Prim.Native.Nat.{◌*◌}
+use lib.ListN.{take, drop}
 use Rattle.text.specs.Hex.{hex_bytes}
 use Rattle.text.proofs.hex.put_pairs.Given as goal
 
 abbrev pub invariant-loop-i : goal.invariant-loop-i
-invariant-loop-i l =
-    (l.i ≤ l.n) × (length l.out ≡ length l.initial.out) × (take l.i l.out ++ hex_bytes (drop (2 * l.i) l.text) ≡ hex_bytes l.text) × (drop l.i l.out ≡ drop l.i l.initial.out)
-
-abbrev pub decreases-loop-i : goal.decreases-loop-i
-decreases-loop-i l = l.n - l.i
+invariant-loop-i l = take l.i l.out ++ hex_bytes (drop (2 * l.i) l.text) ≡ hex_bytes l.text

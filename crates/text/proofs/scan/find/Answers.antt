@@ -1,18 +1,24 @@
--- `text::scan::find`: where the byte stands nothing is left before it; else one byte more is.
-use native.Mathlib.Omega.{arith}
-use borrow.Author.Rules.{rules}
-use Rattle.text.proofs.ScanSteps.{index-here, index_behind}
+-- `text::scan::find`: where the library finds the byte in the part.
+use mathlib.Core.Path.{◌≡◌, ap, ◌∙◌}
+use Prim.Native.Nat.{ℕ, ◌+◌, ◌-◌}
+use lib.ListN.{length, take, drop}
+use Rattle.std.specs.Prelude.{position, ◌==◌}
+use Rattle.std.specs.Option.{unwrap_or}
+use Rattle.std.proofs.Common.{rules, Option}
+use Rattle.std.proofs.lemmas.Iterator.{YieldsList-from_slice}
+use Rattle.std.proofs.lemmas.Iterator.Search.{position_from_yields_List}
+use Rattle.text.specs.Scan.{index_of}
+use Rattle.text.proofs.ScanSteps.{index-found, slice-part}
 use Rattle.text.proofs.scan.find.Goals as goal
 
-pub loop-i-preserved : goal.loop-i-preserved
-loop-i-preserved c =
-    let l = c.loop-i in
+pub returns-clause-place : goal.returns-clause-place
+returns-clause-place c =
     let a = c.args in
-    let on = index_behind a.byte a.s.now l.i a.to (omega arith) (omega arith) c.if-s-i.false in
-    (search rules, omega (arith, on, l.invariant.1))
-
-pub returns-then-s-i-clause-place : goal.returns-then-s-i-clause-place
-returns-then-s-i-clause-place c =
-    let l = c.loop-i in
-    let a = c.args in
-    omega (arith, index-here a.byte a.s.now l.i a.to (omega arith) (omega arith) c.if-s-i.true, l.invariant.1)
+    let part = take (a.to - a.from) (drop a.from a.s.now) in
+    let place : c.position.result ≡ position (λ x. x == a.byte) part =
+    position_from_yields_List (λ (x : ℕ). x == a.byte) _ _ c.position.result c.position.ensures.ran (YieldsList-from_slice part cc) (λ x b q k. search rules) in
+    ap (λ (k : ℕ). a.from + k)
+    (c.unwrap_or.ensures
+    ∙ ap (λ (o : Option ℕ). unwrap_or o (length part)) place
+    ∙ index-found a.byte part
+    ∙ ap (index_of a.byte) (slice-part a.from a.to a.s.now c.requires.0))
