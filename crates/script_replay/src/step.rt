@@ -18,7 +18,6 @@ pub const LINE_LIMIT: usize = 1100;
 const HEX_SIZE: usize = 550;
 
 // Card, chip and key stay three parameters: in a struct each clause reads `self.old.kv.now` for `kv.old`, and each call of the store takes them apart again.
-
 fn set_line(
     kv: &mut [u8],
     rbp: &mut [u8],
