@@ -1,10 +1,11 @@
 // PSA key files. A key's attributes are five numbers, since C's structs have no form here.
 ghost use Rattle.std.specs.Prelude.{◌≡◌, [], ◌∷◌};
 ghost use Rattle.keys.specs.Calls as Keys;
-ghost use Rattle.keys.specs.KeyFile.{parse_key_file};
+ghost use Rattle.keys.specs.KeyFile.{parse_key_file, file_answer};
 
 use keys::key_file::KeyAttributes;
 use keys::{format, parse, persist};
+use store::status::number;
 
 #[unsafe(no_mangle)]
 pub extern "C" fn securestore_format_key_file(
@@ -27,8 +28,8 @@ pub extern "C" fn securestore_format_key_file(
         enrollment_alg,
     };
     let answer = format::format_key_file(attributes, material, key_buf);
-    *count = answer.count;
-    answer.status
+    *count = answer.unwrap_or(0);
+    number(answer)
 }
 
 #[unsafe(no_mangle)]
@@ -55,7 +56,9 @@ pub extern "C" fn securestore_save_key(
         alg,
         enrollment_alg,
     };
-    persist::save_persistent_key(kv, rbp, device_key, key_id, attributes, material, flags, iv)
+    number(persist::save_persistent_key(
+        kv, rbp, device_key, key_id, attributes, material, flags, iv,
+    ))
 }
 
 #[unsafe(no_mangle)]
@@ -70,8 +73,8 @@ pub extern "C" fn securestore_load_key(
     ensures { record { status = result; numbers = count.new ∷ []; output = key_buf.new } ≡ Keys.load_key kv.now rbp.now device_key.now key_id key_buf.old }
 {
     let answer = persist::load_persistent_key(kv, rbp, device_key, key_id, key_buf);
-    *count = answer.count;
-    answer.status
+    *count = answer.unwrap_or(0);
+    number(answer)
 }
 
 // The file's fields; the material stands behind the header, in the lent file itself.
@@ -85,15 +88,16 @@ pub extern "C" fn securestore_parse_key_file(
     enrollment_alg: &mut u32,
     material_len: &mut u32,
 ) -> u32
-    ensures { record { status = result; attributes = record { lifetime = lifetime.new; key_type = key_type.new; usage = usage.new; alg = alg.new; enrollment_alg = enrollment_alg.new }; material_len = material_len.new } ≡ parse_key_file file.now }
+    ensures { record { status = result; attributes = record { lifetime = lifetime.new; key_type = key_type.new; usage = usage.new; alg = alg.new; enrollment_alg = enrollment_alg.new }; material_len = material_len.new } ≡ file_answer (parse_key_file file.now) }
 {
     let answer = parse::parse_key_file(file);
-    let read = answer.attributes;
+    let file = answer.unwrap_or_default();
+    let read = file.attributes;
     *lifetime = read.lifetime;
     *key_type = read.key_type;
     *usage = read.usage;
     *alg = read.alg;
     *enrollment_alg = read.enrollment_alg;
-    *material_len = answer.material_len;
-    answer.status
+    *material_len = file.material_len;
+    number(answer)
 }
