@@ -2,14 +2,14 @@
 use mathlib.Core.Path.{◌≡◌, refl, sym, ap, ◌∙◌}
 use mathlib.Core.List.{List, [], ◌∷◌, ◌++◌, append_assoc}
 use mathlib.Core.Bool.{Bool, true, ◌&&◌}
-use Prim.Native.Nat.{ℕ, zero, suc, ◌+◌, ◌-◌, ◌/◌, ◌%◌, ◌≤◌, ◌<◌}
+use Prim.Native.Nat.{ℕ, zero, suc, ◌+◌, ◌/◌, ◌%◌, ◌≤◌, ◌<◌}
 use native.Mathlib.Omega.{arith}
 use borrow.Author.Tests.{le-leb, lt-leb, eqb-true}
-use lib.Dec.{leb, eqb}
-use lib.ListN.{length, take, drop, set, length-set, get_or}
-use lib.Seq.{take_all, drop-cons, get_or-set_same, drop-set-lt}
+use lib.Dec.{eqb}
+use lib.ListN.{length, drop, set, length-set, get_or}
+use lib.Seq.{drop-cons, get_or-set_same, drop-set-lt}
 use Rattle.spec.specs.Name.{hex_digit, hex_digits, key_name}
-use Rattle.buffers.proofs.Split.{split, both}
+use Rattle.buffers.proofs.Split.{both}
 use Rattle.spec.proofs.Name.{digits-length}
 
 -- "0123456789abcdef"

@@ -8,16 +8,15 @@ use native.Mathlib.Omega.{arith}
 use borrow.Author.Tests.{leb-true, le-leb, eqb-true, eq-eqb}
 use lib.ListN.{length, take, drop}
 use denote.Ref.{Bor}
-use Rattle.std.specs.Prelude.{Result, Ok, Err, MatchResult}
+use Rattle.std.specs.Prelude.{Result, Ok, Err}
 use Rattle.store.specs.declared.status.Refusal.{Refusal}
 use Rattle.store.specs.declared.status.Refusal.TheVariants.{InvalidKeyFile}
 use Rattle.buffers.specs.Bytes.{bytes_eq, u32_at}
 use Rattle.buffers.proofs.Split.{split, both, clash}
 use Rattle.buffers.proofs.Bytes.{bytes_eq-eq, eq-bytes_eq}
 use Rattle.keys.specs.KeyFile.{mark, attributes_of, version_of, material_length_of, key_file_valid, parse_key_file}
-use Rattle.keys.specs.Reader.{Taken, reader_of, has_bytes, taken_at, mark_at, field_at, part_of, part_at, carried_on, ◌then◌, header_at, read_header}
+use Rattle.keys.specs.Reader.{Taken, has_bytes, taken_at, mark_at, field_at, part_at, carried_on, ◌then◌, header_at, read_header}
 use Rattle.keys.specs.Laws.{WellFormed}
-use Rattle.keys.specs.declared.key_file.KeyFile.{KeyFile}
 use Rattle.keys.specs.declared.parse.Header.{Header}
 use Rattle.keys.specs.declared.reader.KeyFileReader.{KeyFileReader}
 use Rattle.keys.proofs.Taken.{has_end, has-bytes, steps-exact, given, lacking}

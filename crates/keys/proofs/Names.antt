@@ -1,16 +1,16 @@
 -- A key's name. Assumes nothing.
 use mathlib.Core.Path.{◌≡◌, refl, sym, ap, ◌∙◌}
-use mathlib.Core.Bool.{Bool, true, cond, ◌&&◌}
+use mathlib.Core.Bool.{cond}
 use mathlib.Core.List.{List, [], ◌∷◌, ◌++◌, foldl}
 use Prim.Native.Nat.{ℕ, zero, suc, ◌+◌, ◌-◌, ◌*◌, ◌/◌, ◌%◌, ◌^◌, ◌≤◌, ◌<◌}
 use native.Mathlib.Nat.{pow-succ', div-one, div-div-eq-div-mul}
 use native.Mathlib.Omega.{arith}
-use borrow.Author.Tests.{le-leb, lt-leb, ltb-true, ltb-false, eqb-true}
-use lib.Dec.{eqb, leb, ltb}
+use borrow.Author.Tests.{le-leb, lt-leb, ltb-true, ltb-false}
+use lib.Dec.{leb, ltb}
 use lib.ListN.{length, get_or, get_or-append}
 use lib.Seq.{get_or-append_seam}
 use Rattle.spec.specs.Name.{hex_digit, hex_digits, key_name}
-use Rattle.buffers.proofs.Split.{split, both}
+use Rattle.buffers.proofs.Split.{split}
 use Rattle.spec.proofs.Name.{digits-length, key-name-valid}
 use Rattle.keys.specs.Laws.{KeyNames}
 use Rattle.keys.proofs.Digits.{table, digit-listed, key_length, name-digits, no_name, high-name}

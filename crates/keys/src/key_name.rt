@@ -9,7 +9,7 @@ fn key_digits(key_id: u32) -> [u8; 16]
 {
     let mut digits = [0u8; 16];
     let mut rest = key_id;
-    // `iter_mut().rev()` would count nothing, but no clause says what it wrote.
+    // Tried: `for digit in digits.iter_mut().rev()`. Its clauses do not say what the loop wrote.
     for i in (0..16).rev() {
         digits[i] = HEX_DIGITS[(rest % 16) as usize];
         rest /= 16;

@@ -1,5 +1,5 @@
 // 01: "The file reader keeps the lent file and a place in it, and takes one field at a time".
-ghost use Rattle.std.specs.Prelude.{◌≡◌};
+ghost use Rattle.std.specs.Prelude.{◌≡◌, ◌+◌, ◌≤◌, length, IfOk};
 ghost use Rattle.keys.specs.Reader.{reader_of, mark_at, field_at, part_at};
 
 use crate::key_file;
@@ -22,7 +22,8 @@ impl<'a> KeyFileReader<'a> {
 
     // The next n bytes. Subtracted and not added: a place near the largest number must not wrap.
     fn part(&self, n: usize) -> Result<&'a [u8], Refusal>
-        ensures { result ≡ (part_at self.now n).answer }
+        ensures answer { result ≡ (part_at self.now n).answer }
+        ensures room { IfOk result (λ x. (self.now.pos + n ≤ length self.now.file.now) × (length x.now ≡ n)) }
     {
         let file = self.file;
         if file.len() < self.pos || file.len() - self.pos < n {

@@ -1,5 +1,5 @@
 -- `keys::key_name::key_name`: the two tests of an identifier.
-use Rattle.std.proofs.Common.{sym, ◌∙◌, inl, inr}
+use Rattle.std.proofs.Common.{sym, ◌∙◌, inl, inr, arith}
 use Rattle.keys.proofs.Digits.{no_name, high-name, name-digits}
 use Rattle.keys.proofs.key_name.key_name.Goals as goal
 
@@ -9,4 +9,4 @@ returns-then-key_id-gt4294901759 c =
 
 pub returns-else-key_id-gt4294901759 : goal.returns-else-key_id-gt4294901759
 returns-else-key_id-gt4294901759 c =
-    let k = c.if-key_id-gt4294901759.false in c.key_digits.ensures ∙ sym (name-digits c.args.key_id k.0 k.1)
+    c.key_digits.ensures ∙ sym (name-digits c.args.key_id (omega arith) (omega arith))

@@ -1,5 +1,5 @@
 -- `keys::parse::parse_key_file`: each test says what the file is not, and all of them what it is.
-use Rattle.std.proofs.Common.{ap, ◌∙◌, ◌≡◌}
+use Rattle.std.proofs.Common.{ap, ◌∙◌}
 use Rattle.keys.specs.Reader.{header_at}
 use Rattle.keys.proofs.Taken.{handed_on}
 use Rattle.keys.proofs.Header.{no_header, other_version, more-material, missing-bytes, trailing_bytes, accepted}

@@ -1,5 +1,4 @@
 -- `keys::parse::take_header`: each field from where the one before it left the reader.
-use Rattle.std.proofs.Common.{refl}
 use Rattle.keys.specs.Reader.{header_at}
 use Rattle.keys.proofs.Taken.{handed_on}
 use Rattle.keys.proofs.parse.take_header.Goals as goal

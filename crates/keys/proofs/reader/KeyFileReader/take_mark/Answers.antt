@@ -1,18 +1,14 @@
 -- `keys::reader::KeyFileReader::take_mark`: the part, where there is one, compared with the mark.
-use Rattle.std.proofs.Common.{sym, ◌∙◌, not, rules}
-use Rattle.store.proofs.Tests.{is_false, is_true}
-use Rattle.keys.proofs.Taken.{handed_on, given, no-mark, wrong-mark, mark-taken}
+use Rattle.std.proofs.Common.{sym, ◌∙◌}
+use Rattle.keys.proofs.Taken.{handed_on, no-mark, wrong-mark, mark-taken}
 use Rattle.keys.proofs.reader.KeyFileReader.take_mark.Goals as goal
 
 pub returns-in_err-mark : goal.returns-in_err-mark
 returns-in_err-mark c =
-    rw (handed_on c.in_err-mark.field-0.0 c.from_residual.result c.from_residual.ensures.1) (no-mark c.args.self.now _ c.in_err-mark.ensures)
+    rw (handed_on c.in_err-mark.field-0.0 c.from_residual.result c.from_residual.ensures.1) (no-mark c.args.self.now _ c.in_err-mark.ensures.answer)
 
 pub returns-then-not-bytes_equal : goal.returns-then-not-bytes_equal
-returns-then-not-bytes_equal c = wrong-mark c.args.self.now _ c.in_ok-mark.ensures (sym c.bytes_equal.ensures ∙ c.if-not-bytes_equal.true)
-
-pub overflow_add-self : goal.overflow_add-self
-overflow_add-self c = let room = (given c.args.self.now 8 _ c.in_ok-mark.ensures).room in search rules
+returns-then-not-bytes_equal c = wrong-mark c.args.self.now _ c.in_ok-mark.ensures.answer (sym c.bytes_equal.ensures ∙ c.if-not-bytes_equal.true)
 
 pub returns : goal.returns
-returns c = mark-taken c.args.self.now _ c.in_ok-mark.ensures (sym c.bytes_equal.ensures ∙ c.if-not-bytes_equal.false)
+returns c = mark-taken c.args.self.now _ c.in_ok-mark.ensures.answer (sym c.bytes_equal.ensures ∙ c.if-not-bytes_equal.false)

@@ -1,15 +1,11 @@
 -- `keys::reader::KeyFileReader::take_material`: the part, where there is one.
-use Rattle.std.proofs.Common.{rules}
-use Rattle.keys.proofs.Taken.{handed_on, given, no-material, material-taken}
+use Rattle.keys.proofs.Taken.{handed_on, no-material, material-taken}
 use Rattle.keys.proofs.reader.KeyFileReader.take_material.Goals as goal
 
 pub returns-in_err-material : goal.returns-in_err-material
 returns-in_err-material c =
     rw (handed_on c.in_err-material.field-0.0 c.from_residual.result c.from_residual.ensures.1)
-    (no-material c.args.self.now c.args.n _ c.in_err-material.ensures)
-
-pub overflow_add-self : goal.overflow_add-self
-overflow_add-self c = let room = (given c.args.self.now c.args.n _ c.in_ok-material.ensures).room in search rules
+    (no-material c.args.self.now c.args.n _ c.in_err-material.ensures.answer)
 
 pub returns : goal.returns
-returns c = material-taken c.args.self.now c.args.n _ c.in_ok-material.ensures
+returns c = material-taken c.args.self.now c.args.n _ c.in_ok-material.ensures.answer
