@@ -211,36 +211,14 @@ impl<'a> Area<'a> {
     }
 }
 
-// The slots of a part one slot on; the last one goes. The width is a number in each call, so that it is one move of a block.
-fn move_on(kind: AreaKind, part: &mut [u8])
-    requires { (format_of kind).slot_size ≤ length part.old }
-    ensures { part.new ≡ take (format_of kind).slot_size part.old ++ take (length part.old - (format_of kind).slot_size) part.old }
-{
-    match kind {
-        AreaKind::Kv => parts::move_up(part, 584),
-        AreaKind::Rbp => parts::move_up(part, 82),
-    }
-}
-
-// The slots of a part one slot back; the first one goes.
-fn move_back(kind: AreaKind, part: &mut [u8])
-    requires { (format_of kind).slot_size ≤ length part.old }
-    ensures { part.new ≡ drop (format_of kind).slot_size part.old ++ drop (length part.old - (format_of kind).slot_size) part.old }
-{
-    match kind {
-        AreaKind::Kv => parts::move_down(part, 584),
-        AreaKind::Rbp => parts::move_down(part, 82),
-    }
-}
-
 // A new slot in front of those of a part, of which the last one goes.
 fn put_first(kind: AreaKind, part: &mut [u8], name: &[u8], payload: &[u8])
     requires kind_in_bounds { (format_of kind).slot_size ≤ length part.old }
     requires name_len_bound { (length name.now ≤ 64) × (length payload.now ≤ payload_size (format_of kind)) }
     ensures { part.new ≡ make_slot (format_of kind) name.now payload.now ++ take (length part.old - (format_of kind).slot_size) part.old }
 {
-    move_on(kind, part);
     let w = kind.slot_size();
+    parts::move_up(part, w);
     slot::make_slot(kind, &mut part[0..w], name, payload);
 }
 
@@ -249,9 +227,10 @@ fn take_first(kind: AreaKind, part: &mut [u8])
     requires { (format_of kind).slot_size ≤ length part.old }
     ensures { part.new ≡ drop (format_of kind).slot_size part.old ++ zeros (format_of kind).slot_size }
 {
-    move_back(kind, part);
+    let w = kind.slot_size();
+    parts::move_down(part, w);
     let end = part.len();
-    let last = end - kind.slot_size();
+    let last = end - w;
     parts::clear(&mut part[last..end]);
 }
 

@@ -9,7 +9,7 @@ returns c =
     let args = c.args in
     let F = format_of args.kind in
     let size = c.slot_size-w in
-    let moved = c.move_on in
+    let moved = c.move_up in
     rw c.make_slot.ensures
     (over_first F.slot_size args.part.now c.requires.kind_in_bounds (make_slot F args.name.now args.payload.now) moved.new.part size.result
-    size.ensures moved.ensures)
+    size.ensures (rw size.ensures at moved.ensures))

@@ -7,7 +7,7 @@ pub returns : goal.returns
 returns c =
     let args = c.args in
     let F = format_of args.kind in
-    let size = c.slot_size in
-    let moved = c.move_back in
+    let size = c.slot_size-w in
+    let moved = c.move_down in
     over_last F.slot_size args.part.now c.requires c.clear.new.part moved.new.part size.result size.ensures
-    moved.ensures c.clear.ensures
+    (rw size.ensures at moved.ensures) c.clear.ensures
