@@ -23,7 +23,7 @@ use Rattle.slots.specs.declared.areas.Found.{Found}
 use Rattle.slots.specs.Found.{slot_for, found_in, slot_at, CanRead, CanInsert, payload_at, insert_end, insert_at, erase_at}
 use Rattle.slots.proofs.AreaLaws.{slot-well}
 use Rattle.slots.proofs.SlotLaws.{holds-used, used-not-free}
-use Rattle.slots.proofs.Order.{space_first, first-at-most, free-lower}
+use Rattle.slots.proofs.Order.{space_first, first-at-most, free-fails}
 use Rattle.slots.proofs.Blocks.{moved_on, moved_back}
 
 is-there : {A : Type 0} (o : Option A) → is_some o ≡ true → (a : A) × (o ≡ some a)
@@ -189,4 +189,4 @@ module _ (F : Format) (l : List ℕ) where
     pub held-used : found.held ≡ true → CanRead F l found → found.at < first_index slot_free (slots F l)
     held-used h can =
         let k = can h in
-        free-lower F l g found.at k.0 (slot_at F l found.at) refl (used-not-free F (slot_at F l found.at) k.1)
+        free-fails F l g found.at (rw (slots_length F l) k.0) (used-not-free F (slot_at F l found.at) k.1)

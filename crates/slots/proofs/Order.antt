@@ -2,7 +2,7 @@
 use mathlib.Core.Path.{◌≡◌, refl, sym, ap, ◌∙◌}
 use mathlib.Core.Bool.{Bool, true, false, ◌&&◌, and_assoc, and-false}
 use mathlib.Core.List.{List, [], ◌∷◌, ◌++◌}
-use mathlib.Core.Option.{Option, some}
+use mathlib.Core.Option.{Option}
 use Prim.Native.Nat.{ℕ, suc, ◌+◌, ◌-◌, ◌*◌, ◌≤◌, ◌<◌}
 use native.Mathlib.Omega.{arith}
 use borrow.Author.Tests.{ltb-true, ltb-false, lt-ltb, le-ltb}
@@ -20,7 +20,8 @@ use Rattle.spec.proofs.First.{any-first, first-lowest}
 use Rattle.spec.proofs.Area.{sized-parts, sized-length, intact-sorted, free-holder, used-holder}
 use Rattle.spec.proofs.Sorted.{front, front-trans, free-behind}
 use Rattle.spec.proofs.SortedIndex.{not_before, fails-before, place-behind, join-drop}
-use Rattle.slots.specs.Found.{slot_for, slot_at, may_follow}
+use Rattle.slots.specs.Search.{FailsBefore}
+use Rattle.slots.specs.Found.{slot_at, may_follow}
 use Rattle.slots.proofs.SlotLaws.{valid-blank, taken-holder}
 
 every_append : {A : Type 0} (t : A → Bool) (a b : List A) → every t (a ++ b) ≡ (every t a && every t b)
@@ -133,24 +134,14 @@ module _ (F : Format) (l : List ℕ) (t : List ℕ → Bool) where
   pub upper-half : (i : ℕ) (x : List ℕ) → x ≡ slot_at F l i → t x ≡ true → first_index t (slots F l) ≤ i
   upper-half i x e h = passes-after t (slots F l) [] i (ap t (sym e) ∙ h)
 
-module _ (F : Format) (l : List ℕ) (g : intact F l ≡ true) (i : ℕ) (h : i < slot_count F l) (x : List ℕ) (e : x ≡ slot_at F l i) where
-  listed : i < length (slots F l)
-  listed = rw (slots_length F l) h
-
+module _ (F : Format) (l : List ℕ) (g : intact F l ≡ true) where
   -- and one that fails is
-  pub free-lower : slot_free x ≡ false → i < first_index slot_free (slots F l)
-  free-lower r =
-      fails-before (slot_holder F) slot_free (free-behind (slot_holder F) slot_free (free-holder F) (used-holder F)) (slots F l) [] i (intact-sorted F l g)
-      listed (ap slot_free (sym e) ∙ r)
+  pub free-fails : FailsBefore slot_free (slots F l)
+  free-fails i h e =
+      fails-before (slot_holder F) slot_free (free-behind (slot_holder F) slot_free (free-holder F) (used-holder F)) (slots F l) [] i (intact-sorted F l g) h e
 
-  pub place-lower : (n : Name) → in_order (slot_holder F x) (some n) ≡ true → i < slot_for F l n
-  place-lower n r =
-      fails-before (slot_holder F) (not_before (slot_holder F) n) (place-behind (slot_holder F) n) (slots F l) [] i (intact-sorted F l g) listed
-      (ap (not_before (slot_holder F) n) (sym e) ∙ rw r)
-
-pub place-upper : (F : Format) (l : List ℕ) (i : ℕ) (x : List ℕ) → x ≡ slot_at F l i → (n : Name) → in_order (slot_holder F x) (some n) ≡ false
-    → slot_for F l n ≤ i
-place-upper F l i x e n r = upper-half F l (not_before (slot_holder F) n) i x e (rw r)
+  pub place-fails : (n : Name) → FailsBefore (not_before (slot_holder F) n) (slots F l)
+  place-fails n i h e = fails-before (slot_holder F) (not_before (slot_holder F) n) (place-behind (slot_holder F) n) (slots F l) [] i (intact-sorted F l g) h e
 
 -- ---- whether one is free
 
@@ -165,4 +156,4 @@ module _ (F : Format) (l : List ℕ) (g : intact F l ≡ true) (i : ℕ) (h : i 
   last-free r = space_first F l ∙ lt-ltb (first_index slot_free (slots F l)) (slot_count F l) (omega (arith, upper-half F l slot_free i x e r))
 
   pub last-used : slot_free x ≡ false → has_space F l ≡ false
-  last-used r = space_first F l ∙ le-ltb (first_index slot_free (slots F l)) (slot_count F l) (omega (arith, free-lower F l g i h x e r))
+  last-used r = space_first F l ∙ le-ltb (first_index slot_free (slots F l)) (slot_count F l) (omega (arith, free-fails F l g i (rw (slots_length F l) h) (ap slot_free (sym e) ∙ r)))

@@ -1,3 +1,4 @@
 pub mod Kind
 pub mod Found
 pub mod Holder
+pub mod Search

@@ -1,11 +1,14 @@
 // An area of slots, tested and edited where it is lent.
-ghost use Rattle.std.specs.Prelude.{◌≡◌, true, [], ◌++◌, ◌-◌, ◌≤◌, ◌<◌, ◌&&◌, length, get_or, take, drop, IfSome};
+ghost use Rattle.std.specs.Prelude.{◌≡◌, true, [], ◌++◌, ◌-◌, ◌≤◌, ◌<◌, ◌&&◌, ℕ, List, Bool, length, get_or, take, drop, IfSome};
+ghost use Rattle.std.specs.Borrow.{Bor};
 ghost use Rattle.std.specs.Option.{is_some, option_copied};
 ghost use Rattle.buffers.specs.Bytes.{zeros};
 ghost use Rattle.spec.specs.Slots.{first_index};
 ghost use Rattle.spec.specs.Area.{kv_format, payload_size, slot_free, slot_used, slot_valid, slot_name, make_slot, slot_count, slots, sized, intact, has_space};
 ghost use Rattle.spec.specs.Calls.{slot_has_prefix, next_match};
 ghost use Rattle.slots.specs.Kind.{format_of};
+ghost use Rattle.slots.specs.declared.slot.Slot.{Slot};
+ghost use Rattle.slots.specs.Search.{FailsBefore};
 ghost use Rattle.slots.specs.Found.{slot_for, found_in, slot_at, CanRead, CanInsert, payload, payload_at, insert_end, insert_at, erase_at};
 
 use crate::AreaKind;
@@ -108,15 +111,17 @@ impl<'a> Area<'a> {
         }
     }
 
-    // The first free slot, or the count of slots, by binary search: the used ones stand at the front.
-    fn first_free(&self) -> usize
-        ensures { result ≡ first_index slot_free (slots (format_of self.now.kind) self.now.bytes.now) }
+    // The first slot that passes the test, or the count of slots, by binary search: whatever stands behind one that passes is to pass. Not std's
+    // `partition_point`, which is of a list in memory: slots are as wide as the kind says.
+    fn first_where<P: Fn(&Slot) -> bool>(&self, test: P) -> usize
+        requires { P.IsAlwaysCallable test }
+        ensures { (t : List ℕ → Bool) → FailsBefore t (slots (format_of self.now.kind) self.now.bytes.now) → ((x : Bor Slot) (r : Bool) → x.now.kind ≡ self.now.kind → P.post test x r → r ≡ t x.now.bytes.now) → result ≡ first_index t (slots (format_of self.now.kind) self.now.bytes.now) }
     {
         let mut low = 0;
         let mut high = self.slot_count();
         while low < high {
             let mid = (low + high) / 2;
-            if self.slot(mid).is_free() {
+            if test(&self.slot(mid)) {
                 high = mid;
             } else {
                 low = mid + 1;
@@ -125,21 +130,18 @@ impl<'a> Area<'a> {
         low
     }
 
-    // The first slot that does not stand before the name, or the count of slots, by binary search.
+    // The first free slot, or the count of slots: the used ones stand at the front.
+    fn first_free(&self) -> usize
+        ensures { result ≡ first_index slot_free (slots (format_of self.now.kind) self.now.bytes.now) }
+    {
+        self.first_where(|slot| slot.is_free())
+    }
+
+    // The first slot that does not stand before the name, or the count of slots.
     fn slot_for(&self, name: &[u8]) -> usize
         ensures { result ≡ slot_for (format_of self.now.kind) self.now.bytes.now name.now }
     {
-        let mut low = 0;
-        let mut high = self.slot_count();
-        while low < high {
-            let mid = (low + high) / 2;
-            if self.slot(mid).precedes(name) {
-                low = mid + 1;
-            } else {
-                high = mid;
-            }
-        }
-        low
+        self.first_where(|slot| !slot.precedes(name))
     }
 
     // The last slot tells: the used ones stand at the front.
