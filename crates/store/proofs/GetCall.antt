@@ -3,17 +3,17 @@ use mathlib.Core.Path.{◌≡◌, refl, sym, ap, ◌∙◌}
 use mathlib.Core.Logic.{◌≢◌}
 use mathlib.Core.Bool.{true, not}
 use mathlib.Core.List.{List, [], ◌∷◌, ◌++◌}
-use mathlib.Core.Option.{Option}
+use mathlib.Core.Option.{Option, some}
 use Prim.Native.Nat.{ℕ, ◌≤◌}
 use lib.ListN.{length}
 use borrow.Author.Tests.{eqb-true, leb-true}
-use Rattle.buffers.specs.Bytes.{is_some}
 use Rattle.buffers.proofs.Split.{not-false-is}
 use Rattle.spec.specs.Status.{ok, Test, ◌when◌, first_of, Answer, answer_of}
 use Rattle.spec.specs.Name.{valid_name}
 use Rattle.spec.specs.Record.{require_replay_protection, well_formed, data_size_of, flags_of}
 use Rattle.spec.specs.Area.{kv_format, rbp_format, sized, lookup}
 use Rattle.spec.specs.Interleaving.{Outcome}
+use Rattle.spec.specs.Request.{Binding}
 use Rattle.spec.specs.Decisions.{key_sized, record_of, get_held, read_count, read_output, get_request, get_info_request}
 use Rattle.spec.specs.Calls.{Areas, areas, binding_of, store_world, store_get, store_get_info}
 use Rattle.spec.specs.Demand2.{Undamaged}
@@ -21,11 +21,8 @@ use Rattle.spec.proofs.World.{run-done, run-refused, Accepted, accepted}
 use Rattle.spec.proofs.Status as status
 use Rattle.spec.proofs.Get.{get_exact}
 use Rattle.slots.specs.Found.{found_in, CanRead, payload_at}
-use Rattle.store.specs.declared.judge.Judged.{Judged}
-use Rattle.store.specs.Parts.{given, get_early, keyless_tests, keyed_tests, nowhere, judged, looked_up, got_of}
-use Rattle.store.proofs.Given.{given_is}
-use Rattle.store.proofs.Slices.{tag-sized}
-use Rattle.store.proofs.Judged.{held-is, readable, payload-is, judged-refused, judged-here, all-passed, kv_found}
+use Rattle.store.specs.Parts.{get_early, keyless_tests, keyed_tests, Judgement, judged, got_of}
+use Rattle.store.proofs.Judged.{readable, payload-is, all-passed, kv_found}
 
 abbrev answer-of : Outcome Areas Answer → Answer
 answer-of o = o.answer
@@ -60,10 +57,6 @@ module _ (key name : List ℕ) (offset : ℕ) (r : List ℕ) (tag : Option (List
           output = (b ∙ sym (status.on-ok verdict (read_output key name offset output r) output k)) i;
         }
 
--- a status that is known, written out
-pub found_ok : (l r : Judged) → l.status ≡ ok → l ≡ r → record { status = ok; found = l.found; entry = l.entry } ≡ r
-found_ok l r z e = ap (λ (n : ℕ). record { status = n; found = l.found; entry = l.entry }) (sym z) ∙ e
-
 module _ (kv rbp key name : List ℕ) where
   abbrev first : List Test
   first = get_early kv rbp key name
@@ -82,9 +75,9 @@ module _ (kv rbp key name : List ℕ) where
     abbrev pub get_rest : List Test
     get_rest = get_held require_replay_protection key name offset (binding_of kv rbp name)
 
-    module _ (j : Judged) (e : j ≡ judged kv rbp name first get_rest) where
+    module _ (j : Judgement) (e : j ≡ judged kv rbp name first get_rest) where
       status_is : j.status ≡ first_of (first ++ get_rest)
-      status_is = ap (λ (x : Judged). x.status) e
+      status_is = ap (λ (x : Judgement). x.status) e
 
       -- what a judgement without refusal says; p is the record that was found
       pub record GetAccepted : Type 0 where
@@ -114,109 +107,56 @@ module _ (kv rbp key name : List ℕ) where
               stored = payload-is kv_format kv name j.found record_found u.kv_intact;
             }
 
-      module _ (output : List ℕ) where
-        pub got_refused : j.status ≢ ok
-            → record { status = j.status; numbers = 0 ∷ []; output = output } ≡ (store_get kv rbp key name offset output).answer
-        unfolding store_get
-        got_refused h =
-            ap (λ (s : ℕ). record { status = s; numbers = 0 ∷ []; output = output }) status_is
-            ∙ sym (ap answer-of
-            (run-refused store_world (areas kv rbp) (get_request require_replay_protection key name offset output) (λ k. h (status_is ∙ k))))
+    -- a get that is refused: n is what its tests decide
+    pub not_got : (output : List ℕ) (n : ℕ) → n ≡ first_of (first ++ get_rest) → n ≢ ok
+        → record { status = n; numbers = 0 ∷ []; output = output } ≡ (store_get kv rbp key name offset output).answer
+    unfolding store_get
+    not_got output n e h =
+        ap (λ (s : ℕ). record { status = s; numbers = 0 ∷ []; output = output }) e
+        ∙ sym (ap answer-of
+        (run-refused store_world (areas kv rbp) (get_request require_replay_protection key name offset output) (λ k. h (e ∙ k))))
 
-  -- ---- once 1 to 3 have passed: l is what the look-up found
+    -- refused before the name is looked up
+    pub got_early : (output : List ℕ) (n : ℕ) → n ≡ first_of first → n ≢ ok
+        → record { status = n; numbers = 0 ∷ []; output = output } ≡ (store_get kv rbp key name offset output).answer
+    got_early output n e h = not_got output n (e ∙ sym (status.stops first get_rest (λ z. h (e ∙ z)))) h
 
-  abbrev keyless : List Test
-  keyless = keyless_tests (is_some (lookup kv_format kv name)) (record_of (lookup kv_format kv name)) (is_some (lookup rbp_format rbp name))
+    abbrev keyless : List Test
+    keyless = keyless_tests (binding_of kv rbp name)
 
-  abbrev keyed : ℕ → List Test
-  keyed offset = keyed_tests key name offset (record_of (lookup kv_format kv name)) (lookup rbp_format rbp name)
+    abbrev keyed : List Test
+    keyed = keyed_tests key name offset (record_of (lookup kv_format kv name)) (lookup rbp_format rbp name)
 
-  module _ (h : first_of first ≡ ok) (l : Judged) (e : l ≡ looked_up kv rbp name) where
-    kv-here : l.found ≡ found_in kv_format kv name
-    kv-here = ap (λ (x : Judged). x.found) e
+    -- once 1 to 3 have passed: b is what the name has
+    module _ (h : first_of first ≡ ok) (b : Binding) (e : b ≡ binding_of kv rbp name) where
+      decided : first_of (keyless_tests b) ≡ first_of keyless
+      decided = ap (λ (x : Binding). first_of (keyless_tests x)) e
 
-    rbp-here : l.entry ≡ found_in rbp_format rbp name
-    rbp-here = ap (λ (x : Judged). x.entry) e
-
-    decided : l.status ≡ first_of keyless
-    decided = ap (λ (x : Judged). x.status) e
-
-    -- refused without a key
-    pub looked-refused : (offset : ℕ) → l.status ≢ ok → l ≡ judged kv rbp name first (get_rest offset)
-    unfolding get_held
-    looked-refused offset n =
-        let stop : l.status ≡ first_of (get_rest offset) = decided ∙ sym (status.stops keyless (keyed offset) (λ z. n (decided ∙ z))) in
-        judged-here kv rbp name first (get_rest offset) refl h l.status l.found l.entry stop kv-here rbp-here
-
-    -- a record is there, and well formed: p; t is what the chip has
-    pub record Looked : Type 0 where
-      pub kv_found : (sized kv_format kv ≡ true) × CanRead kv_format kv l.found
-      pub rbp_found : (sized rbp_format rbp ≡ true) × CanRead rbp_format rbp l.entry
-      pub key_is_sized : length key ≡ 16
-      pub valid : (p : List ℕ) → p ≡ payload_at kv_format kv l.found → well_formed p ≡ true
-      pub sixteen : (t : List ℕ) → t ≡ payload_at rbp_format rbp l.entry → l.entry.held ≡ true → length t ≡ 16
-      -- what is decided of it
-      pub judge : (offset : ℕ) (p t k : List ℕ) (n : ℕ) → p ≡ payload_at kv_format kv l.found → t ≡ payload_at rbp_format rbp l.entry
-          → k ≡ key → n ≡ first_of (keyed_tests k name offset p (given l.entry.held t))
-          → record { status = n; found = l.found; entry = l.entry } ≡ judged kv rbp name first (get_rest offset)
-      pub got : (offset : ℕ) (output p t k : List ℕ) → p ≡ payload_at kv_format kv l.found → t ≡ payload_at rbp_format rbp l.entry → k ≡ key
-          → got_of k name offset p (given l.entry.held t) output ≡ (store_get kv rbp key name offset output).answer
-
-    module _ (z : l.status ≡ ok) where
-      u : Undamaged kv rbp
-      u = get-sane h
-
-      stored_is : (p : List ℕ) → p ≡ payload_at kv_format kv l.found → p ≡ record_of (lookup kv_format kv name)
-      stored_is = payload-is kv_format kv name l.found kv-here u.kv_intact
-
-      tag_is : (t : List ℕ) → t ≡ payload_at rbp_format rbp l.entry → t ≡ record_of (lookup rbp_format rbp name)
-      tag_is = payload-is rbp_format rbp name l.entry rbp-here u.rbp_intact
-
-      chip_is : (t : List ℕ) → t ≡ payload_at rbp_format rbp l.entry → given l.entry.held t ≡ lookup rbp_format rbp name
-      chip_is t q = given_is (lookup rbp_format rbp name) l.entry.held t (held-is rbp_format rbp name l.entry rbp-here) (tag_is t q)
-
-      -- the tests that are left decide
-      left : (offset : ℕ) → first_of (get_rest offset) ≡ first_of (keyed offset)
+      -- refused without a key
+      pub keyless_refused : (output : List ℕ) (n : ℕ) → n ≡ first_of (keyless_tests b) → n ≢ ok
+          → record { status = n; numbers = 0 ∷ []; output = output } ≡ (store_get kv rbp key name offset output).answer
       unfolding get_held
-      left offset = status.passes keyless (keyed offset) refl (sym decided ∙ z)
+      keyless_refused output n p k =
+          let w = p ∙ decided in
+          not_got output n (w ∙ sym (status.stops keyless keyed (λ z. k (w ∙ z))) ∙ sym (status.passes first get_rest refl h)) k
 
-      whole : well_formed (record_of (lookup kv_format kv name)) ≡ true
-      whole = not-false-is _ (status.all-passed keyless refl (sym decided ∙ z)).1.1.0
+      -- a record is there, and well formed: r
+      pub got_record : ok ≡ first_of (keyless_tests b) → (r : List ℕ) → b.stored ≡ some r → (k : List ℕ) → k ≡ key → (output : List ℕ)
+          → got_of k name offset r b.tag output ≡ (store_get kv rbp key name offset output).answer
+      unfolding store_get get_held
+      got_record p r q k ek output =
+          let card = lookup kv_format kv name in
+          let stored_is : r ≡ record_of card = sym (ap record_of q) ∙ ap (λ (x : Binding). record_of x.stored) e in
+          let left = status.passes keyless keyed refl (sym (p ∙ decided)) in
+          let all : first_of keyed ≡ first_of (first ++ get_rest) = sym (status.passes first get_rest refl h ∙ left) in
+          (λ i. got_of (ek i) name offset (stored_is i) (e i).tag output)
+          ∙ λ i. answer_of (all i) (read_count offset output (record_of card) ∷ []) (read_output key name offset output (record_of card)) output
 
-      got_whole : (offset : ℕ) (output : List ℕ)
-          → got_of key name offset (record_of (lookup kv_format kv name)) (lookup rbp_format rbp name) output ≡ (store_get kv rbp key name offset output).answer
-      unfolding store_get
-      got_whole offset output =
-          let r = record_of (lookup kv_format kv name) in
-          let all : first_of (keyed offset) ≡ first_of (first ++ get_rest offset) = sym (status.passes first (get_rest offset) refl h ∙ left offset) in
-          λ i. answer_of (all i) (read_count offset output r ∷ []) (read_output key name offset output r) output
-
-      pub looked : Looked
-      looked = record {
-        kv_found = (u.kv_sized, readable kv_format kv name l.found kv-here u.kv_sized u.kv_intact);
-        rbp_found = (u.rbp_sized, readable rbp_format rbp name l.entry rbp-here u.rbp_sized u.rbp_intact);
-        key_is_sized = get_key h;
-        valid = λ p q. rw (stored_is p q) whole;
-        sixteen = λ t q held. tag-sized rbp name t (sym (held-is rbp_format rbp name l.entry rbp-here) ∙ held) (tag_is t q);
-        judge = λ offset p t k n ep et ek en.
-            let status : n ≡ first_of (get_rest offset) =
-            en ∙ (λ i. first_of (keyed_tests (ek i) name offset (stored_is p ep i) (chip_is t et i))) ∙ sym (left offset) in
-            judged-here kv rbp name first (get_rest offset) refl h n l.found l.entry status kv-here rbp-here;
-        got = λ offset output p t k ep et ek.
-            (λ i. got_of (ek i) name offset (stored_is p ep i) (chip_is t et i) output) ∙ got_whole offset output;
-      }
-
-  -- a get that is refused before the name is looked up
-  pub got_early : (offset : ℕ) (output : List ℕ) (n : ℕ) → n ≡ first_of first → n ≢ ok
-      → record { status = n; numbers = 0 ∷ []; output = output } ≡ (store_get kv rbp key name offset output).answer
-  got_early offset output n e h = got_refused offset (record { status = n; found = nowhere; entry = nowhere })
-      (judged-refused kv rbp name first (get_rest offset) n e h) output h
-
-  module _ (j : Judged) (e : j ≡ judged kv rbp name first (get_rest 0)) where
+  module _ (j : Judgement) (e : j ≡ judged kv rbp name first (get_rest 0)) where
     pub info-refused : j.status ≢ ok → record { status = j.status; numbers = 0 ∷ 0 ∷ []; output = [] } ≡ (store_get_info kv rbp key name).answer
     unfolding store_get_info
     info-refused h =
-        let z = ap (λ (x : Judged). x.status) e in
+        let z = ap (λ (x : Judgement). x.status) e in
         ap (λ (s : ℕ). record { status = s; numbers = 0 ∷ 0 ∷ []; output = [] }) z
         ∙ sym (ap answer-of (run-refused store_world (areas kv rbp) (get_info_request require_replay_protection key name) (λ k. h (z ∙ k))))
 

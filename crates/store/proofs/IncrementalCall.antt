@@ -1,7 +1,7 @@
 -- A set in chunks: from what each test says to what the calls answer and leave. Assumes nothing.
 use mathlib.Core.Path.{◌≡◌, refl, sym, ap, ◌∙◌}
 use mathlib.Core.Logic.{◌≢◌}
-use mathlib.Core.Bool.{Bool, true, false, not, ◌&&◌}
+use mathlib.Core.Bool.{true, not, ◌&&◌}
 use mathlib.Core.List.{List, [], ◌∷◌, ◌++◌}
 use Prim.Native.Nat.{ℕ, ◌+◌, ◌-◌, ◌≤◌, ◌<◌}
 use native.Mathlib.Omega.{arith}
@@ -9,7 +9,7 @@ use borrow.Author.Tests.{eq-eqb, ne_eqb, leb-true, le-leb, lt-leb}
 use lib.Dec.{eqb, leb}
 use lib.ListN.{length, take, drop}
 use Rattle.buffers.specs.Bytes.{put_at}
-use Rattle.buffers.proofs.Split.{not-false-is, both, clash}
+use Rattle.buffers.proofs.Split.{not-false-is, both}
 use Rattle.spec.specs.Status.{ok, Test, ◌when◌, refuse_if, first_of, on_ok, answer_of, Answer}
 use Rattle.spec.specs.Name.{Name}
 use Rattle.spec.specs.Area.{kv_format, rbp_format, sized}
@@ -24,11 +24,12 @@ use Rattle.spec.proofs.Status.{Passed, all-passed, past, stops}
 use Rattle.spec.proofs.IncrementalSet.{startable, addable, complete-of, as_set, finalize-refused}
 use Rattle.store.specs.Parts.{finalize_early}
 
--- what a call that gives only its status is, where that is another number than 0, and where it is 0
-module _ {State : Type 0} (n status : ℕ) (s t x : State) (e : n ≡ status) where
-  abbrev Given : ℕ → State → Outcome State Answer
-  Given k y = record { answer = record { status = k; numbers = []; output = [] }; after = y }
+-- what a call that gives only its status is
+abbrev pub Given : {State : Type 0} → ℕ → State → Outcome State Answer
+Given k y = record { answer = record { status = k; numbers = []; output = [] }; after = y }
 
+-- the same, where that is another number than 0, and where it is 0
+module _ {State : Type 0} (n status : ℕ) (s t x : State) (e : n ≡ status) where
   abbrev Defined : Outcome State Answer
   Defined = record { answer = answer_of status [] [] []; after = on_ok status s t }
 
@@ -114,26 +115,7 @@ module _ (kv rbp key : List ℕ) (h : IncSetHandle) (staging : List ℕ) where
   abbrev short : List Test
   short = (19 when not (eqb h.offset h.final_data_size)) ∷ []
 
-  -- the lengths, one after another
-  pub no-card : sized kv_format kv ≡ false → 1 ≡ first_of tests
-  unfolding refuse_if
-  no-card k = rw k
-
-  pub no-chip : sized kv_format kv ≡ true → sized rbp_format rbp ≡ false → 1 ≡ first_of tests
-  unfolding refuse_if
-  no-chip k r = rw (k, r)
-
-  wrong : (a b : Bool) (rest : List Test) → (a && b) ≡ false → 1 ≡ first_of ((1 when not a) ∷ (1 when not b) ∷ rest)
-  unfolding refuse_if
-  wrong false b rest e = refl
-  wrong true false rest e = refl
-  wrong true true rest e = clash true refl e
-
   module _ (k : sized kv_format kv ≡ true) (r : sized rbp_format rbp ≡ true) where
-    pub no_length : (key_sized key && staging_sized staging) ≡ false → 1 ≡ first_of tests
-    unfolding refuse_if
-    no_length e = rw (k, r) (wrong (key_sized key) (staging_sized staging) (handle_tests h ++ short) e)
-
     module _ (l : (key_sized key && staging_sized staging) ≡ true) (n : ℕ) (e : n ≡ first_of (handle_tests h)) where
       then : first_of (handle_tests h ++ short) ≡ first_of tests
       unfolding refuse_if

@@ -1,7 +1,7 @@
 -- The iterator: what an accepted and a refused walk say. Assumes nothing.
-use mathlib.Core.Path.{◌≡◌, refl, sym, ◌∙◌}
+use mathlib.Core.Path.{◌≡◌, refl, sym, ap, ◌∙◌}
 use mathlib.Core.Logic.{◌≢◌}
-use mathlib.Core.Bool.{true, false, not}
+use mathlib.Core.Bool.{Bool, true, false, not}
 use mathlib.Core.List.{List, [], ◌∷◌, ◌++◌}
 use mathlib.Core.Option.{some}
 use Prim.Native.Nat.{ℕ, suc, ◌≤◌, ◌<◌}
@@ -23,7 +23,11 @@ use Rattle.spec.proofs.Chunks.{slots_length}
 use Rattle.spec.proofs.Area.{intact-valid}
 use Rattle.slots.proofs.AreaLaws.{slot-well}
 use Rattle.slots.proofs.SlotLaws.{taken-is-used, taken-holder}
-use Rattle.store.specs.Parts.{iterator_early}
+use Rattle.store.specs.Parts.{early, iterator_early}
+
+pub early_is : (kv rbp prefix name_buf : List ℕ) (named : Bool) → named ≡ valid_prefix prefix
+    → first_of (early kv rbp ((1 when not (leb 64 (length name_buf))) ∷ []) ((3 when not named) ∷ [])) ≡ first_of (iterator_early kv rbp prefix name_buf)
+early_is kv rbp prefix name_buf named e = ap (λ (x : Bool). first_of (early kv rbp ((1 when not (leb 64 (length name_buf))) ∷ []) ((3 when not x) ∷ []))) e
 
 pub iterator_sane : (kv rbp prefix name_buf : List ℕ) → first_of (iterator_early kv rbp prefix name_buf) ≡ ok → Undamaged kv rbp
 iterator_sane kv rbp prefix name_buf h =

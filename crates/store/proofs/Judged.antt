@@ -1,11 +1,9 @@
 -- A judgement: from its parts, and what it says where the status is 0. Assumes nothing.
 use mathlib.Core.Path.{◌≡◌, sym, ap, ◌∙◌}
 use mathlib.Core.Logic.{◌≢◌}
-use mathlib.Core.Bool.{true, cond}
+use mathlib.Core.Bool.{true}
 use mathlib.Core.List.{List, [], ◌++◌, map}
 use Prim.Native.Nat.{ℕ}
-use borrow.Author.Tests.{eq-eqb, ne_eqb}
-use lib.Dec.{eqb}
 use Rattle.buffers.specs.Bytes.{every, is_some}
 use Rattle.spec.specs.Status.{ok, Test, first_of, Answer}
 use Rattle.spec.specs.Name.{Name}
@@ -13,12 +11,11 @@ use Rattle.spec.specs.Area.{Format, kv_format, rbp_format, sized, intact, lookup
 use Rattle.spec.specs.Interleaving.{Outcome}
 use Rattle.spec.specs.Calls.{Areas}
 use Rattle.spec.specs.Decisions.{record_of}
-use Rattle.spec.proofs.Status.{number, nonzero, stops, passes, first-passed, on-ok, on-refused, by-status}
+use Rattle.spec.proofs.Status.{number, nonzero, stops, passes, first-passed, on-ok, on-refused}
 use Rattle.slots.specs.declared.areas.Found.{Found}
 use Rattle.slots.specs.Found.{found_in, CanRead, payload_at}
 use Rattle.slots.proofs.Edits.{found-held, found-readable, found-payload}
-use Rattle.store.specs.declared.judge.Judged.{Judged}
-use Rattle.store.specs.Parts.{nowhere, judged}
+use Rattle.store.specs.Parts.{Judgement, nowhere, judged}
 
 -- a call that changes card and chip, as its contract has it
 abbrev pub Left : ℕ → Areas → Outcome Areas Answer
@@ -34,13 +31,6 @@ module _ (F : Format) (l name : List ℕ) (f : Found) (e : f ≡ found_in F l na
 
   pub payload-is : intact F l ≡ true → (p : List ℕ) → p ≡ payload_at F l f → p ≡ record_of (lookup F l name)
   payload-is g p h = h ∙ ap (payload_at F l) e ∙ found-payload F l g name
-
--- two lists in order, decided one by one
-pub in_order_lem : (l m : List Test) (a b : ℕ) → every nonzero (map number l) ≡ true → a ≡ first_of l → b ≡ first_of m
-    → cond (eqb a 0) b a ≡ first_of (l ++ m)
-in_order_lem l m a b z p q = by-status a
-    (λ h. rw (eq-eqb a 0 h) (q ∙ sym (passes l m z (sym p ∙ h))))
-    (λ h. rw (ne_eqb a 0 h) (p ∙ sym (stops l m (λ k. h (p ∙ k)))))
 
 module _ (kv rbp : List ℕ) (name : Name) (first tests : List Test) where
   pub judged-refused : (n : ℕ) → n ≡ first_of first → n ≢ ok → record { status = n; found = nowhere; entry = nowhere } ≡ judged kv rbp name first tests
@@ -62,15 +52,15 @@ module _ (kv rbp : List ℕ) (name : Name) (first tests : List Test) where
   }
 
   -- where the status is 0, every test has passed, and the name was looked up
-  module _ (j : Judged) (e : j ≡ judged kv rbp name first tests) (h : j.status ≡ ok) where
+  module _ (j : Judgement) (e : j ≡ judged kv rbp name first tests) (h : j.status ≡ ok) where
     pub all-passed : first_of (first ++ tests) ≡ ok
-    all-passed = sym (ap (λ (x : Judged). x.status) e) ∙ h
+    all-passed = sym (ap (λ (x : Judgement). x.status) e) ∙ h
 
     early-passed : every nonzero (map number (first ++ tests)) ≡ true → first_of first ≡ ok
     early-passed z = first-passed first tests z all-passed
 
     pub kv_found : every nonzero (map number (first ++ tests)) ≡ true → j.found ≡ found_in kv_format kv name
-    kv_found z = ap (λ (x : Judged). x.found) e ∙ on-ok (first_of first) (found_in kv_format kv name) nowhere (early-passed z)
+    kv_found z = ap (λ (x : Judgement). x.found) e ∙ on-ok (first_of first) (found_in kv_format kv name) nowhere (early-passed z)
 
     pub rbp_found : every nonzero (map number (first ++ tests)) ≡ true → j.entry ≡ found_in rbp_format rbp name
-    rbp_found z = ap (λ (x : Judged). x.entry) e ∙ on-ok (first_of first) (found_in rbp_format rbp name) nowhere (early-passed z)
+    rbp_found z = ap (λ (x : Judgement). x.entry) e ∙ on-ok (first_of first) (found_in rbp_format rbp name) nowhere (early-passed z)

@@ -1,6 +1,6 @@
 pub mod Tests
-pub mod Given
 pub mod Judged
+pub mod Given
 pub mod Slices
 pub mod SetCall
 pub mod GetCall

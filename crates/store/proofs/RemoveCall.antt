@@ -6,7 +6,7 @@ use mathlib.Core.List.{List, [], ◌∷◌, ◌++◌}
 use Prim.Native.Nat.{ℕ}
 use Rattle.buffers.specs.Bytes.{is_some}
 use Rattle.buffers.proofs.Split.{not_some, is-some}
-use Rattle.spec.specs.Status.{ok, Test, ◌when◌, first_of}
+use Rattle.spec.specs.Status.{ok, Test, ◌when◌, refuse_if, first_of}
 use Rattle.spec.specs.Name.{valid_name}
 use Rattle.spec.specs.Record.{require_replay_protection, well_formed, flags_of}
 use Rattle.spec.specs.Area.{kv_format, rbp_format, sized, lookup, keep, clear, erase_slot, edit_area}
@@ -18,8 +18,7 @@ use Rattle.spec.proofs.World.{run-done, run-refused, accepted}
 use Rattle.spec.proofs.Remove.{remove_exact}
 use Rattle.slots.specs.Found.{found_in, CanRead, payload_at, erase_at}
 use Rattle.slots.proofs.Edits.{erase-found, erase-absent}
-use Rattle.store.specs.declared.judge.Judged.{Judged}
-use Rattle.store.specs.Parts.{remove_early, judged, record_erased}
+use Rattle.store.specs.Parts.{Judgement, early, remove_early, judged, record_erased}
 use Rattle.store.proofs.Judged.{Left, held-is, readable, payload-is, all-passed, kv_found, rbp_found}
 
 module _ (kv rbp name : List ℕ) where
@@ -32,14 +31,19 @@ module _ (kv rbp name : List ℕ) where
   abbrev request : Request
   request = remove_request require_replay_protection name
 
+  -- a remove has no length besides those of the areas
+  pub early_is : (named : Bool) → named ≡ valid_name name → first_of (early kv rbp ((1 when not true) ∷ []) ((3 when not named) ∷ [])) ≡ first_of first
+  unfolding refuse_if
+  early_is named e = ap (λ (x : Bool). first_of (early kv rbp [] ((3 when not x) ∷ []))) e
+
   pub remove-sane : first_of first ≡ ok → Undamaged kv rbp
   remove-sane h = (accepted (areas kv rbp) [] ((3 when not (valid_name name)) ∷ []) refl h).undamaged
 
-  module _ (j : Judged) (e : j ≡ judged kv rbp name first rest) where
+  module _ (j : Judgement) (e : j ≡ judged kv rbp name first rest) where
     pub remove-refused : j.status ≢ ok → Left j.status (areas kv rbp) ≡ store_remove kv rbp name
     unfolding store_remove
     remove-refused h =
-        let z = ap (λ (x : Judged). x.status) e in
+        let z = ap (λ (x : Judgement). x.status) e in
         ap (λ (s : ℕ). Left s (areas kv rbp)) z ∙ sym (run-refused store_world (areas kv rbp) request (λ k. h (z ∙ k)))
 
     -- what a judgement without refusal says, and what the call then is; p is the record that was found

@@ -1,7 +1,7 @@
 -- A set: from its judgement to what it answers and leaves. Assumes nothing.
 use mathlib.Core.Path.{◌≡◌, refl, sym, ap, ◌∙◌}
 use mathlib.Core.Logic.{◌≢◌}
-use mathlib.Core.Bool.{Bool, true, cond, not, ◌&&◌}
+use mathlib.Core.Bool.{true, cond, not}
 use mathlib.Core.List.{List, [], ◌∷◌, ◌++◌}
 use Prim.Native.Nat.{ℕ}
 use lib.ListN.{length}
@@ -18,9 +18,7 @@ use Rattle.spec.proofs.World.{run-done, run-refused, accepted}
 use Rattle.spec.proofs.Set.{Ready, ready_of}
 use Rattle.slots.specs.Found.{found_in, CanInsert, insert_at}
 use Rattle.slots.proofs.Edits.{insert-found, can-insert}
-use Rattle.store.specs.declared.judge.Judged.{Judged}
-use Rattle.store.specs.Parts.{area_tests, set_arguments, set_early, judged, record_written}
-use Rattle.store.proofs.Tests.{two-besides, areas_refuse, arguments-decide}
+use Rattle.store.specs.Parts.{Judgement, set_arguments, set_early, judged, record_written}
 use Rattle.store.proofs.Judged.{Left, all-passed, kv_found, rbp_found}
 
 module _ (kv rbp key name : List ℕ) (flags : ℕ) (iv value : List ℕ) where
@@ -36,30 +34,16 @@ module _ (kv rbp key name : List ℕ) (flags : ℕ) (iv value : List ℕ) where
   abbrev request : Request
   request = set_request require_replay_protection key name flags iv value
 
-  -- ---- before the name is looked up: g is what the areas and the lengths say
-
-  module _ (g : ℕ) (lengths : Bool) (e : g ≡ first_of (area_tests kv rbp lengths)) (l : lengths ≡ (key_sized key && iv_sized iv)) where
-    tested : g ≡ first_of (area_tests kv rbp (key_sized key && iv_sized iv))
-    tested = e ∙ ap (λ (x : Bool). first_of (area_tests kv rbp x)) l
-
-    pub set-areas : g ≢ ok → g ≡ first_of first
-    set-areas h = areas_refuse kv rbp (set_arguments name flags value) (key_sized key && iv_sized iv) g tested h
-        ∙ sym (two-besides kv rbp (set_arguments name flags value) (key_sized key) (iv_sized iv))
-
-    pub set-arguments : g ≡ ok → (n : ℕ) → n ≡ first_of (set_arguments name flags value) → n ≡ first_of first
-    set-arguments h n w = w ∙ arguments-decide kv rbp (set_arguments name flags value) (key_sized key && iv_sized iv) g tested h
-        ∙ sym (two-besides kv rbp (set_arguments name flags value) (key_sized key) (iv_sized iv))
-
   pub set-sane : first_of first ≡ ok → Undamaged kv rbp
   set-sane h = (accepted (areas kv rbp) ((1 when not (key_sized key)) ∷ (1 when not (iv_sized iv)) ∷ []) (set_arguments name flags value) refl h).undamaged
 
   -- ---- once it is judged
 
-  module _ (j : Judged) (e : j ≡ judged kv rbp name first set_rest) where
+  module _ (j : Judgement) (e : j ≡ judged kv rbp name first set_rest) where
     pub set-refused : j.status ≢ ok → Left j.status (areas kv rbp) ≡ store_set kv rbp key name flags iv value
     unfolding store_set
     set-refused h =
-        let z = ap (λ (x : Judged). x.status) e in
+        let z = ap (λ (x : Judgement). x.status) e in
         ap (λ (s : ℕ). Left s (areas kv rbp)) z ∙ sym (run-refused store_world (areas kv rbp) request (λ k. h (z ∙ k)))
 
     -- what a judgement without refusal says, and what the call then is

@@ -1,12 +1,18 @@
 -- What a test of the code says of the definition that it computes, and the tests before a name is looked up. Assumes nothing.
-use mathlib.Core.Path.{◌≡◌, refl, sym, ◌∙◌}
+use mathlib.Core.Path.{◌≡◌, refl, sym, ap, ◌∙◌}
 use mathlib.Core.Logic.{◌≢◌}
 use mathlib.Core.Bool.{Bool, true, false, not, ◌&&◌}
-use mathlib.Core.List.{List, [], ◌∷◌, ◌++◌}
+use mathlib.Core.List.{List, [], ◌∷◌, ◌++◌, map}
 use Prim.Native.Nat.{ℕ}
 use borrow.Author.Tests.{not-true, not-false}
-use Rattle.spec.specs.Status.{ok, Test, ◌when◌, refuse_if, first_of}
-use Rattle.spec.proofs.Status.{stops, passes}
+use Rattle.std.specs.Prelude.{Result, Ok, Err, IsErr, IsErrAnd}
+use Rattle.buffers.specs.Bytes.{every}
+use Rattle.buffers.proofs.Split.{clash}
+use Rattle.spec.specs.Status.{ok, Test, ◌when◌, refuse_if, first_of, Answer}
+use Rattle.spec.proofs.Status.{number, nonzero, stops, passes}
+use Rattle.store.specs.declared.status.Refusal.{Refusal}
+use Rattle.store.specs.declared.status.Refusal.TheVariants.{Length, Corrupt, InvalidName, InvalidFlags, DataSize, NotFound, AlreadyExists, InvalidRecord, FlagsMismatch, NoSpace, Authentication, Rollback, InvalidKeyFile, Offset, TransferSize, InvalidMix, Ambiguous}
+use Rattle.store.specs.Answers.{code, status_of, count_of}
 use Rattle.store.specs.Parts.{area_tests, early}
 
 -- `if !f(..)`, taken and left
@@ -15,6 +21,46 @@ is_false {b} e t = sym e ∙ not-true b t
 
 pub is_true : {b x : Bool} → b ≡ x → not b ≡ false → x ≡ true
 is_true {b} e t = sym e ∙ not-false b t
+
+-- a refusal's number is not that of a call that is done
+pub refused_number : (e : Refusal) → code e ≢ ok
+refused_number Length z = cc
+refused_number Corrupt z = cc
+refused_number InvalidName z = cc
+refused_number InvalidFlags z = cc
+refused_number DataSize z = cc
+refused_number NotFound z = cc
+refused_number AlreadyExists z = cc
+refused_number InvalidRecord z = cc
+refused_number FlagsMismatch z = cc
+refused_number NoSpace z = cc
+refused_number Authentication z = cc
+refused_number Rollback z = cc
+refused_number InvalidKeyFile z = cc
+refused_number Offset z = cc
+refused_number TransferSize z = cc
+refused_number InvalidMix z = cc
+refused_number Ambiguous z = cc
+
+-- what `?` hands on
+pub handed_on : {A : Type 0} (r : Result A Refusal) (e : Refusal) → IsErr r × IsErrAnd r (λ x. x ≡ e) → r ≡ Err e
+handed_on (Ok a) e h = clash false h.0 refl
+handed_on (Err x) e h = ap Err h.1
+
+pub handed_status : {A : Type 0} (r : Result A Refusal) (e : Refusal) → IsErr r × IsErrAnd r (λ x. x ≡ e) → status_of r ≡ code e
+handed_status r e h = ap status_of (handed_on r e h)
+
+pub handed_answer : (r : Result ℕ Refusal) (e : Refusal) (output : List ℕ) → IsErr r × IsErrAnd r (λ x. x ≡ e)
+    → ◌≡◌ {A = Answer} (record { status = status_of r; numbers = count_of r ∷ []; output = output }) (record { status = code e; numbers = 0 ∷ []; output = output })
+handed_answer r e output h = ap (λ (x : Result ℕ Refusal). record { status = status_of x; numbers = count_of x ∷ []; output = output }) (handed_on r e h)
+
+-- tests in two groups: the first refuses, or it passes, and the second decides
+module _ (l m : List Test) where
+  pub stopped : {A : Type 0} (r : Result A Refusal) (e : Refusal) → IsErr r × IsErrAnd r (λ x. x ≡ e) → code e ≡ first_of l → status_of r ≡ first_of (l ++ m)
+  stopped r e h p = ap status_of (handed_on r e h) ∙ p ∙ sym (stops l m (λ z. refused_number e (p ∙ z)))
+
+  pub went_on : every nonzero (map number l) ≡ true → ok ≡ first_of l → (n : ℕ) → n ≡ first_of m → n ≡ first_of (l ++ m)
+  went_on z p n q = q ∙ sym (passes l m z (sym p))
 
 -- one number for two tests
 both_say : (a b : Bool) (n x : ℕ) → refuse_if (not (a && b)) n x ≡ refuse_if (not a) n (refuse_if (not b) n x)
@@ -33,10 +79,3 @@ module _ (kv rbp : List ℕ) (arguments : List Test) where
 
   pub two-besides : (a b : Bool) → first_of (early kv rbp ((1 when not a) ∷ (1 when not b) ∷ []) arguments) ≡ first_of (area_tests kv rbp (a && b) ++ arguments)
   two-besides a b = rw (both_say a b)
-
-  module _ (lengths : Bool) (g : ℕ) (e : g ≡ first_of (area_tests kv rbp lengths)) where
-    pub areas_refuse : g ≢ ok → g ≡ first_of (area_tests kv rbp lengths ++ arguments)
-    areas_refuse h = e ∙ sym (stops (area_tests kv rbp lengths) arguments (λ z. h (e ∙ z)))
-
-    pub arguments-decide : g ≡ ok → first_of arguments ≡ first_of (area_tests kv rbp lengths ++ arguments)
-    arguments-decide h = sym (passes (area_tests kv rbp lengths) arguments refl (sym e ∙ h))

@@ -9,7 +9,7 @@ use Rattle.std.specs.Result.{result_unwrap_or}
 use Rattle.store.specs.declared.answers.Info.{Info}
 use Rattle.store.specs.declared.answers.Iterated.{Iterated}
 use Rattle.store.specs.declared.status.Refusal.{Refusal}
-use Rattle.store.specs.declared.status.Refusal.TheVariants.{Length, Corrupt, InvalidName, InvalidFlags, DataSize, NotFound, AlreadyExists, InvalidRecord, FlagsMismatch, NoSpace, Authentication, Rollback, InvalidKeyFile, Offset, TransferSize, InvalidMix, Ambiguous, Other}
+use Rattle.store.specs.declared.status.Refusal.TheVariants.{Length, Corrupt, InvalidName, InvalidFlags, DataSize, NotFound, AlreadyExists, InvalidRecord, FlagsMismatch, NoSpace, Authentication, Rollback, InvalidKeyFile, Offset, TransferSize, InvalidMix, Ambiguous}
 
 abbrev pub code : Refusal → ℕ
 code Length = 1
@@ -29,7 +29,6 @@ code Offset = 14
 code TransferSize = 19
 code InvalidMix = 20
 code Ambiguous = 21
-code (Other n) = n
 
 abbrev pub status_of : {A : Type 0} → Result A Refusal → ℕ
 status_of (Ok _) = 0

@@ -2,29 +2,33 @@
 --   area_tests                        the tests of card and chip, and of the lengths that a call has besides
 --   early, set_early .. iterator_early the tests that a call makes before it looks the name up; a set's own arguments (set_arguments)
 --   finalize_early                    those of a finalize
---   given, binding_given              what a name has, as the code hands it on: held or not, and the bytes
+--   option_of, given, binding          what a name has, as the code hands it on
 --   authentic, fresh                 the tests for 11, and for 12 of a record with flag 8, pass
 --   downgrade_tests, offset_tests      the test for 12 of a record without it, and the one for 14
 --   keyless_tests, keyed_tests         a get's tests of what the name has: those that need no key, and those of a record that is well formed
---   looked_up                         the slots that a get finds for the name, with what it refuses without a key
---   judged                           a call's status, and the slots that the name has, once the tests before them have passed
+--   Judgement, judgement               a call's status, and the slots that the name has; what the code has of it
+--   judged                           the same, once the tests before the look-up have passed
 --   got_of                            what a get answers of a record that is well formed
 --   record_written, record_erased      card and chip, with the slots that were found written and taken out
-use Rattle.std.specs.Prelude.{Bool, false, cond, not, ◌&&◌, List, [], ◌∷◌, ◌++◌, ℕ, leb, length}
+use Rattle.std.specs.Prelude.{Bool, false, cond, not, ◌&&◌, ◌||◌, List, [], ◌∷◌, ◌++◌, ℕ, eqb, leb, length, Some, None, option_copied}
+use Rattle.std.specs.declared.option.Option as lent
+use Rattle.std.specs.Borrow.{Bor}
 use Rattle.std.proofs.Math.Option.{Option, none, some}
 use Rattle.buffers.specs.Bytes.{is_some}
 use Rattle.spec.specs.Status.{Test, ◌when◌, first_of, on_ok, Answer, answer_of}
 use Rattle.spec.specs.Name.{Name, valid_name, valid_prefix}
-use Rattle.spec.specs.Record.{require_integrity, require_replay_protection, valid_flags, max_data_size, data_size_of, flags_of, tag_of, well_formed, mac_ok, seal_record}
-use Rattle.spec.specs.Area.{kv_format, rbp_format, lookup}
+use Rattle.spec.specs.Record.{write_once, require_integrity, require_replay_protection, valid_flags, max_data_size, data_size_of, flags_of, tag_of, well_formed, mac_ok, seal_record}
+use Rattle.spec.specs.Area.{kv_format, rbp_format}
 use Rattle.spec.specs.Request.{Binding}
-use Rattle.spec.specs.Decisions.{key_sized, iv_sized, record_of, tag_matches, downgraded, read_count, read_output}
+use Rattle.spec.specs.Decisions.{key_sized, iv_sized, on_card, in_chip, record_of, tag_matches, downgraded, read_count, read_output}
 use Rattle.spec.specs.Calls.{Areas, areas, area_lengths, area_damage}
 use Rattle.spec.specs.Incremental.{finalize_tests}
 use Rattle.spec.specs.declared.incremental.IncSetHandle.{IncSetHandle}
 use Rattle.slots.specs.declared.areas.Found.{Found}
 use Rattle.slots.specs.Found.{found_in, insert_at, erase_at}
+use Rattle.store.specs.declared.judge.Held.{Held}
 use Rattle.store.specs.declared.judge.Judged.{Judged}
+use Rattle.store.specs.Answers.{status_of}
 
 -- ---- the tests before the name is looked up
 
@@ -56,11 +60,15 @@ finalize_early kv rbp key h staging = area_lengths (areas kv rbp) ++ ((1 when no
 
 -- ---- what the name has
 
-abbrev pub given : Bool → List ℕ → Option (List ℕ)
-given held bytes = cond held (some bytes) none
+abbrev pub option_of : {A : Type 0} → lent.Option A → Option A
+option_of None = none
+option_of (Some x) = some x
 
-abbrev pub binding_given : Bool → List ℕ → Bool → List ℕ → Binding
-binding_given held stored tag_held tag = record { stored = given held stored; tag = given tag_held tag }
+abbrev pub given : lent.Option (Bor (List ℕ)) → Option (List ℕ)
+given stored = option_of (option_copied stored)
+
+abbrev pub binding : Held → Binding
+binding held = record { stored = given held.stored; tag = option_of held.tag }
 
 abbrev pub authentic : List ℕ → Name → List ℕ → Bool
 authentic key name r = not (require_integrity (flags_of r) && not (mac_ok key name r))
@@ -75,8 +83,12 @@ downgrade_tests flags tag_held = (12 when downgraded require_replay_protection f
 abbrev pub offset_tests : ℕ → List ℕ → List Test
 offset_tests offset r = (14 when not (leb offset (data_size_of r))) ∷ []
 
-abbrev pub keyless_tests : Bool → List ℕ → Bool → List Test
-keyless_tests held r tag_held = (12 when not held && tag_held) ∷ (6 when not held) ∷ (8 when not (well_formed r)) ∷ []
+abbrev pub keyless_tests : Binding → List Test
+keyless_tests b = (12 when not (on_card b) && in_chip b) ∷ (6 when not (on_card b)) ∷ (8 when not (well_formed (record_of b.stored))) ∷ []
+
+-- a set's tests of the record that the card holds
+abbrev pub stored_tests : ℕ → List ℕ → List Test
+stored_tests flags r = (8 when not (well_formed r)) ∷ (7 when write_once (flags_of r) || write_once flags) ∷ (9 when not (eqb flags (flags_of r))) ∷ []
 
 abbrev pub keyed_tests : List ℕ → Name → ℕ → List ℕ → Option (List ℕ) → List Test
 keyed_tests key name offset r tag =
@@ -89,21 +101,20 @@ keyed_tests key name offset r tag =
 abbrev pub nowhere : Found
 nowhere = record { at = 0; held = false }
 
-abbrev pub judged : List ℕ → List ℕ → Name → List Test → List Test → Judged
+pub record Judgement : Type 0 where
+  pub status : ℕ
+  pub found : Found
+  pub entry : Found
+
+abbrev pub judgement : Judged → Judgement
+judgement j = record { status = status_of j.verdict; found = j.found; entry = j.entry }
+
+abbrev pub judged : List ℕ → List ℕ → Name → List Test → List Test → Judgement
 judged kv rbp name first tests = record {
   status = first_of (first ++ tests);
   found = on_ok (first_of first) (found_in kv_format kv name) nowhere;
   entry = on_ok (first_of first) (found_in rbp_format rbp name) nowhere;
 }
-
-abbrev pub looked_up : List ℕ → List ℕ → Name → Judged
-looked_up kv rbp name =
-    let stored = lookup kv_format kv name in
-    record {
-      status = first_of (keyless_tests (is_some stored) (record_of stored) (is_some (lookup rbp_format rbp name)));
-      found = found_in kv_format kv name;
-      entry = found_in rbp_format rbp name;
-    }
 
 -- what a get of a well formed record gives
 abbrev pub got_of : List ℕ → Name → ℕ → List ℕ → Option (List ℕ) → List ℕ → Answer

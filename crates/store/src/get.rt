@@ -1,42 +1,32 @@
 // Get and info: a record is judged, and its data or its size and flags handed out.
-ghost use Rattle.std.specs.Prelude.{◌≡◌, true, [], ◌∷◌, ◌≤◌, length};
+ghost use Rattle.std.specs.Prelude.{◌≡◌, true, [], ◌∷◌, ◌≤◌, length, IfOk};
+ghost use Rattle.std.proofs.Math.Option.{some};
 ghost use Rattle.cipher.specs.Device.{IsPrepared};
 ghost use Rattle.spec.specs.Record.{require_replay_protection, well_formed, data_size_of, flags_of};
 ghost use Rattle.spec.specs.Status.{ok, first_of};
 ghost use Rattle.spec.specs.Decisions.{get_held, read_count, read_output};
 ghost use Rattle.spec.specs.Calls.{binding_of, store_get, store_get_info};
-ghost use Rattle.spec.specs.Demand2.{Undamaged};
-ghost use Rattle.spec.specs.Area.{kv_format};
-ghost use Rattle.slots.specs.Found.{payload_at};
 ghost use Rattle.records.specs.Parts.{ReadyFor};
 ghost use Rattle.store.specs.Answers.{status_of, value_or, count_of, no_info};
-ghost use Rattle.store.specs.Parts.{get_early, given, authentic, fresh, offset_tests, keyless_tests, keyed_tests, judged, looked_up, got_of};
+ghost use Rattle.store.specs.Parts.{get_early, given, binding, option_of, authentic, fresh, offset_tests, keyless_tests, keyed_tests, judgement, judged, got_of};
 
 use crate::answers::Info;
-use crate::judge::Judged;
+use crate::judge::{Held, Judged};
 use crate::status::Refusal;
-use crate::{guard, judge, status};
+use crate::{guard, judge};
 use buffers::parts;
 use cipher::kdf;
 use cipher::kdf::DeviceKey;
 use cipher::tables::Tables;
 use records::keys::Keys;
 use records::{flags as flag, mac, record};
-use slots::areas::Found;
 use slots::{AreaKind, areas, names};
 
 // 1 to 3: what a get asks before it looks the name up.
-pub fn early_status(kv: &[u8], rbp: &[u8], device_key: &[u8], name: &[u8]) -> u32
-    ensures { result ≡ first_of (get_early kv.now rbp.now device_key.now name.now) }
+pub fn early_status(kv: &[u8], rbp: &[u8], device_key: &[u8], name: &[u8]) -> Result<(), Refusal>
+    ensures { status_of result ≡ first_of (get_early kv.now rbp.now device_key.now name.now) }
 {
-    let areas = guard::guard_areas(kv, rbp, device_key.len() == 16);
-    if areas != status::OK {
-        return areas;
-    }
-    if !names::valid_name(name) {
-        return status::ERR_INVALID_NAME;
-    }
-    status::OK
+    guard::early_status(kv, rbp, device_key.len() == 16, names::valid_name(name))
 }
 
 // The record's CMAC verifies, where integrity is flagged.
@@ -52,75 +42,68 @@ fn is_authentic(keys: &Keys, stored: &[u8]) -> bool
 }
 
 // The record is the one that the chip knows, where replay protection is flagged.
-fn is_fresh(tag_held: bool, tag: &[u8], stored: &[u8]) -> bool
-    requires { (tag_held ≡ true → length tag.now ≡ 16) × (well_formed stored.now ≡ true) }
-    ensures { result ≡ fresh (given tag_held tag.now) stored.now }
+fn is_fresh(tag: Option<[u8; 16]>, stored: &[u8]) -> bool
+    requires { well_formed stored.now ≡ true }
+    ensures { result ≡ fresh (option_of tag) stored.now }
 {
     if !flag::require_replay_protection(record::record_flags(stored)) {
         return true;
     }
-    if !tag_held {
-        return false;
+    match tag {
+        Some(tag) => mac::copy_difference(&tag, stored) == 0,
+        None => false,
     }
-    mac::copy_difference(tag, stored) == 0
 }
 
 // 14, or done.
-fn offset_status(stored: &[u8], offset: usize) -> u32
+#[tactic(auto, unfolding(spec::specs::Status::refuse_if))]
+fn offset_status(stored: &[u8], offset: usize) -> Result<(), Refusal>
     requires { well_formed stored.now ≡ true }
-    ensures { result ≡ first_of (offset_tests offset stored.now) }
+    ensures { status_of result ≡ first_of (offset_tests offset stored.now) }
 {
     if (record::record_data_size(stored) as usize) < offset {
-        return status::ERR_OFFSET;
+        return Err(Refusal::Offset);
     }
-    status::OK
+    Ok(())
 }
 
-// 12 where the chip has a name that the card lacks, else 6; then 8: what needs no key.
-pub fn keyless_status(held: bool, stored: &[u8], tag_held: bool) -> u32
-    ensures { result ≡ first_of (keyless_tests held stored.now tag_held) }
+// 12 where the chip has a name that the card lacks, else 6; then 8: what needs no key. The record, where there is one and it is well formed.
+#[tactic(auto, using(crate::proofs::Given::some_option), unfolding(spec::specs::Status::refuse_if))]
+pub fn keyless_status<'a>(held: Held<'a>) -> Result<&'a [u8], Refusal>
+    ensures tests { status_of result ≡ first_of (keyless_tests (binding held.entry)) }
+    ensures stored { IfOk result (λ r. (given held.entry.stored ≡ some r.now) × (well_formed r.now ≡ true)) }
 {
-    if !held {
-        if tag_held {
-            return status::ERR_ROLLBACK;
+    let Some(stored) = held.stored else {
+        if held.tag.is_some() {
+            return Err(Refusal::Rollback);
         }
-        return status::ERR_NOT_FOUND;
-    }
+        return Err(Refusal::NotFound);
+    };
     if !record::record_valid(stored) {
-        return status::ERR_INVALID_RECORD;
+        return Err(Refusal::InvalidRecord);
     }
-    status::OK
+    Ok(stored)
 }
 
 // 11, 12 with replay protection and without, 14.
-pub fn held_status(keys: &Keys, offset: usize, stored: &[u8], tag_held: bool, tag: &[u8]) -> u32
-    requires tag_len { (tag_held ≡ true → length tag.now ≡ 16) × (well_formed stored.now ≡ true) }
+pub fn held_status(
+    keys: &Keys,
+    offset: usize,
+    stored: &[u8],
+    tag: Option<[u8; 16]>,
+) -> Result<(), Refusal>
+    requires stored_value { well_formed stored.now ≡ true }
     requires ready_for { ReadyFor (flags_of stored.now) keys.now.device.now }
-    ensures { result ≡ first_of (keyed_tests keys.now.device.now.key keys.now.name.now offset stored.now (given tag_held tag.now)) }
+    ensures { status_of result ≡ first_of (keyed_tests keys.now.device.now.key keys.now.name.now offset stored.now (option_of tag)) }
 {
     if !is_authentic(keys, stored) {
-        return status::ERR_AUTHENTICATION;
+        return Err(Refusal::Authentication);
     }
-    if !is_fresh(tag_held, tag, stored) {
-        return status::ERR_ROLLBACK;
+    if !is_fresh(tag, stored) {
+        return Err(Refusal::Rollback);
     }
-    let downgrade = judge::downgrade_status(record::record_flags(stored), tag_held);
-    status::first(downgrade, offset_status(stored, offset))
-}
-
-// Where the name's slots are, and what is refused before a key is needed.
-fn look_up(kv: &[u8], rbp: &[u8], name: &[u8]) -> Judged
-    requires { Undamaged kv.now rbp.now }
-    ensures { result ≡ looked_up kv.now rbp.now name.now }
-{
-    let found = areas::find(AreaKind::Kv, kv, name);
-    let entry = areas::find(AreaKind::Rbp, rbp, name);
-    let stored = areas::payload_at(AreaKind::Kv, kv, found);
-    Judged {
-        status: keyless_status(found.held, stored, entry.held),
-        found,
-        entry,
-    }
+    judge::downgrade_status(record::record_flags(stored), tag.is_some())?;
+    offset_status(stored, offset)
 }
 
 // The device key, prepared where the record's flags ask for keys.
@@ -133,19 +116,12 @@ fn key_for(tables: &Tables, device_key: &[u8], stored: &[u8]) -> DeviceKey
     kdf::prepare_if(wanted, tables, parts::array::<16>(device_key))
 }
 
-// What a get decides once 1 to 3 have passed.
-fn judge_held(kv: &[u8], rbp: &[u8], device_key: &[u8], name: &[u8], offset: usize) -> Judged
-    requires { first_of (get_early kv.now rbp.now device_key.now name.now) ≡ ok }
-    ensures { result ≡ judged kv.now rbp.now name.now (get_early kv.now rbp.now device_key.now name.now) (get_held require_replay_protection device_key.now name.now offset (binding_of kv.now rbp.now name.now)) }
+// What a get decides of what the name has.
+fn verdict(device_key: &[u8], name: &[u8], offset: usize, held: Held<'_>) -> Result<(), Refusal>
+    requires { length device_key.now ≡ 16 }
+    ensures { status_of result ≡ first_of (get_held require_replay_protection device_key.now name.now offset (binding held.entry)) }
 {
-    let seen = look_up(kv, rbp, name);
-    if seen.status != status::OK {
-        return seen;
-    }
-    let found = seen.found;
-    let entry = seen.entry;
-    let stored = areas::payload_at(AreaKind::Kv, kv, found);
-    let tag = areas::payload_at(AreaKind::Rbp, rbp, entry);
+    let stored = keyless_status(held)?;
     let tables = Tables::new();
     let device = key_for(&tables, device_key, stored);
     let keys = Keys {
@@ -153,21 +129,21 @@ fn judge_held(kv: &[u8], rbp: &[u8], device_key: &[u8], name: &[u8], offset: usi
         device: &device,
         name,
     };
-    Judged {
-        status: held_status(&keys, offset, stored, entry.held, tag),
-        found,
-        entry,
-    }
+    held_status(&keys, offset, stored, held.tag)
 }
 
 pub fn judge(kv: &[u8], rbp: &[u8], device_key: &[u8], name: &[u8], offset: usize) -> Judged
-    ensures { result ≡ judged kv.now rbp.now name.now (get_early kv.now rbp.now device_key.now name.now) (get_held require_replay_protection device_key.now name.now offset (binding_of kv.now rbp.now name.now)) }
+    ensures { judgement result ≡ judged kv.now rbp.now name.now (get_early kv.now rbp.now device_key.now name.now) (get_held require_replay_protection device_key.now name.now offset (binding_of kv.now rbp.now name.now)) }
 {
-    let early = early_status(kv, rbp, device_key, name);
-    if early != status::OK {
-        return judge::refused(early);
+    if let Err(refusal) = early_status(kv, rbp, device_key, name) {
+        return judge::refused(refusal);
     }
-    judge_held(kv, rbp, device_key, name, offset)
+    let looked = judge::look_up(kv, rbp, name);
+    Judged {
+        verdict: verdict(device_key, name, offset, looked.held),
+        found: looked.found,
+        entry: looked.entry,
+    }
 }
 
 // The bytes of an accepted record, from an offset, to the front of the output. Those from its front need no array besides.
@@ -190,40 +166,15 @@ fn get_record(
     keys: &Keys,
     offset: usize,
     stored: &[u8],
-    tag_held: bool,
-    tag: &[u8],
+    tag: Option<[u8; 16]>,
     output: &mut [u8],
 ) -> Result<usize, Refusal>
-    requires tag_len { (tag_held ≡ true → length tag.now ≡ 16) × (well_formed stored.now ≡ true) }
+    requires stored_value { well_formed stored.now ≡ true }
     requires ready_for { ReadyFor (flags_of stored.now) keys.now.device.now }
-    ensures { record { status = status_of result; numbers = count_of result ∷ []; output = output.new } ≡ got_of keys.now.device.now.key keys.now.name.now offset stored.now (given tag_held tag.now) output.old }
+    ensures { record { status = status_of result; numbers = count_of result ∷ []; output = output.new } ≡ got_of keys.now.device.now.key keys.now.name.now offset stored.now (option_of tag) output.old }
 {
-    let status = held_status(keys, offset, stored, tag_held, tag);
-    if status != status::OK {
-        return Err(Refusal::Other(status));
-    }
-    let count = read_record(keys, stored, offset, output);
-    Ok(count)
-}
-
-// A get of a name that was looked up, its record well formed.
-fn get_found(
-    keys: &Keys,
-    kv: &[u8],
-    rbp: &[u8],
-    offset: usize,
-    found: Found,
-    entry: Found,
-    output: &mut [u8],
-) -> Result<usize, Refusal>
-    requires name_value { first_of (get_early kv.now rbp.now keys.now.device.now.key keys.now.name.now) ≡ ok }
-    requires value { record { status = ok; found = found; entry = entry } ≡ looked_up kv.now rbp.now keys.now.name.now }
-    requires ready_for { ReadyFor (flags_of (payload_at kv_format kv.now found)) keys.now.device.now }
-    ensures { record { status = status_of result; numbers = count_of result ∷ []; output = output.new } ≡ (store_get kv.now rbp.now keys.now.device.now.key keys.now.name.now offset output.old).answer }
-{
-    let stored = areas::payload_at(AreaKind::Kv, kv, found);
-    let tag = areas::payload_at(AreaKind::Rbp, rbp, entry);
-    get_record(keys, offset, stored, entry.held, tag, output)
+    held_status(keys, offset, stored, tag)?;
+    Ok(read_record(keys, stored, offset, output))
 }
 
 // A get once 1 to 3 have passed, with the tables and the device key lent, for who reads many names of one card.
@@ -238,41 +189,12 @@ pub fn get_prepared(
     requires ready { IsPrepared keys.now.device.now }
     ensures { record { status = status_of result; numbers = count_of result ∷ []; output = output.new } ≡ (store_get kv.now rbp.now keys.now.device.now.key keys.now.name.now offset output.old).answer }
 {
-    let seen = look_up(kv, rbp, keys.name);
-    if seen.status != status::OK {
-        return Err(Refusal::Other(seen.status));
-    }
-    get_found(keys, kv, rbp, offset, seen.found, seen.entry, output)
+    let held = judge::look_up(kv, rbp, keys.name).held;
+    let stored = keyless_status(held)?;
+    get_record(keys, offset, stored, held.tag, output)
 }
 
-// The same for one name: nothing is prepared before the record is there.
-fn get_held(
-    kv: &[u8],
-    rbp: &[u8],
-    device_key: &[u8],
-    name: &[u8],
-    offset: usize,
-    output: &mut [u8],
-) -> Result<usize, Refusal>
-    requires { first_of (get_early kv.now rbp.now device_key.now name.now) ≡ ok }
-    ensures { record { status = status_of result; numbers = count_of result ∷ []; output = output.new } ≡ (store_get kv.now rbp.now device_key.now name.now offset output.old).answer }
-{
-    let seen = look_up(kv, rbp, name);
-    if seen.status != status::OK {
-        return Err(Refusal::Other(seen.status));
-    }
-    let found = seen.found;
-    let stored = areas::payload_at(AreaKind::Kv, kv, found);
-    let tables = Tables::new();
-    let device = key_for(&tables, device_key, stored);
-    let keys = Keys {
-        tables: &tables,
-        device: &device,
-        name,
-    };
-    get_found(&keys, kv, rbp, offset, found, seen.entry, output)
-}
-
+// Nothing is prepared before the record is there.
 pub fn get(
     kv: &[u8],
     rbp: &[u8],
@@ -283,20 +205,24 @@ pub fn get(
 ) -> Result<usize, Refusal>
     ensures { record { status = status_of result; numbers = count_of result ∷ []; output = output.new } ≡ (store_get kv.now rbp.now device_key.now name.now offset output.old).answer }
 {
-    let early = early_status(kv, rbp, device_key, name);
-    if early != status::OK {
-        return Err(Refusal::Other(early));
-    }
-    get_held(kv, rbp, device_key, name, offset, output)
+    early_status(kv, rbp, device_key, name)?;
+    let held = judge::look_up(kv, rbp, name).held;
+    let stored = keyless_status(held)?;
+    let tables = Tables::new();
+    let device = key_for(&tables, device_key, stored);
+    let keys = Keys {
+        tables: &tables,
+        device: &device,
+        name,
+    };
+    get_record(&keys, offset, stored, held.tag, output)
 }
 
 pub fn get_info(kv: &[u8], rbp: &[u8], device_key: &[u8], name: &[u8]) -> Result<Info, Refusal>
     ensures { record { status = status_of result; numbers = (value_or no_info result).data_size ∷ (value_or no_info result).flags ∷ []; output = [] } ≡ (store_get_info kv.now rbp.now device_key.now name.now).answer }
 {
     let judged = judge(kv, rbp, device_key, name, 0);
-    if judged.status != status::OK {
-        return Err(Refusal::Other(judged.status));
-    }
+    judged.verdict?;
     let stored = areas::payload_at(AreaKind::Kv, kv, judged.found);
     Ok(Info {
         data_size: record::record_data_size(stored),

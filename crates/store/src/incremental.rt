@@ -6,26 +6,27 @@ ghost use Rattle.spec.specs.IncrementalExact.{Startable};
 ghost use Rattle.store.specs.Answers.{status_of, value_or};
 ghost use Rattle.store.specs.Parts.{finalize_early};
 
+use crate::set;
 use crate::status::Refusal;
-use crate::{guard, set, status};
 use buffers::parts;
 use slots::{AreaKind, areas};
 use spec::incremental::IncSetHandle;
 
 // 1, 3, 5.
-fn start_status(name: &[u8], iv: &[u8], final_data_size: usize) -> u32
-    ensures { result ≡ first_of (start_tests name.now iv.now final_data_size) }
+#[tactic(auto, unfolding(spec::specs::Status::refuse_if))]
+fn start_status(name: &[u8], iv: &[u8], final_data_size: usize) -> Result<(), Refusal>
+    ensures { status_of result ≡ first_of (start_tests name.now iv.now final_data_size) }
 {
     if iv.len() != 8 {
-        return status::ERR_LENGTH;
+        return Err(Refusal::Length);
     }
     if 64 < name.len() {
-        return status::ERR_INVALID_NAME;
+        return Err(Refusal::InvalidName);
     }
     if 480 < final_data_size {
-        return status::ERR_DATA_SIZE;
+        return Err(Refusal::DataSize);
     }
-    status::OK
+    Ok(())
 }
 
 pub fn zero_handle() -> IncSetHandle
@@ -66,61 +67,51 @@ pub fn set_start(
 ) -> Result<IncSetHandle, Refusal>
     ensures { record { answer = record { status = status_of result; numbers = []; output = [] }; after = value_or zero_handle result } ≡ set_start name.now flags iv.now final_data_size }
 {
-    let status = start_status(name, iv, final_data_size);
-    if status != status::OK {
-        return Err(Refusal::Other(status));
-    }
+    start_status(name, iv, final_data_size)?;
     Ok(new_handle(name, flags, iv, final_data_size))
 }
 
 // 19 for a handle that no call leaves.
-fn handle_status(handle: IncSetHandle) -> u32
-    ensures { result ≡ first_of (handle_tests handle) }
+#[tactic(auto, unfolding(spec::specs::Status::refuse_if))]
+fn handle_status(handle: IncSetHandle) -> Result<(), Refusal>
+    ensures { status_of result ≡ first_of (handle_tests handle) }
 {
     if 64 < handle.name_len {
-        return status::ERR_TRANSFER_SIZE;
+        return Err(Refusal::TransferSize);
     }
     if 480 < handle.final_data_size {
-        return status::ERR_TRANSFER_SIZE;
+        return Err(Refusal::TransferSize);
     }
     if handle.final_data_size < handle.offset {
-        return status::ERR_TRANSFER_SIZE;
+        return Err(Refusal::TransferSize);
     }
-    status::OK
+    Ok(())
 }
 
 // 1, 19.
-fn add_status(handle: IncSetHandle, staging: &[u8], chunk: &[u8]) -> u32
-    ensures { result ≡ first_of (add_tests handle staging.now chunk.now) }
+#[tactic(auto, unfolding(spec::specs::Status::refuse_if))]
+fn add_status(handle: IncSetHandle, staging: &[u8], chunk: &[u8]) -> Result<(), Refusal>
+    ensures { status_of result ≡ first_of (add_tests handle staging.now chunk.now) }
 {
     if staging.len() != 480 {
-        return status::ERR_LENGTH;
+        return Err(Refusal::Length);
     }
-    let broken = handle_status(handle);
-    if broken != status::OK {
-        return broken;
-    }
+    handle_status(handle)?;
     // Subtracted, since a chunk's length added to the count might wrap.
     let left = (handle.final_data_size - handle.offset) as usize;
     if left < chunk.len() {
-        return status::ERR_TRANSFER_SIZE;
+        return Err(Refusal::TransferSize);
     }
-    status::OK
+    Ok(())
 }
 
 fn advance(handle: IncSetHandle, n: u32) -> IncSetHandle
     requires { handle.offset + n ≤ 480 }
     ensures { result ≡ advanced handle n }
 {
-    let name = handle.name;
-    let iv = handle.iv;
     IncSetHandle {
-        name,
-        name_len: handle.name_len,
-        flags: handle.flags,
-        iv,
-        final_data_size: handle.final_data_size,
         offset: handle.offset + n,
+        ..handle
     }
 }
 
@@ -132,42 +123,40 @@ pub fn set_add_data(
     ensures { record { answer = record { status = status_of result; numbers = []; output = [] }; after = record { handle = handle.new; staging = staging.new } } ≡ set_add_data handle.old staging.old chunk.now }
 {
     let held = *handle;
-    let status = add_status(held, staging, chunk);
-    if status != status::OK {
-        return Err(Refusal::Other(status));
-    }
+    add_status(held, staging, chunk)?;
     parts::paste(staging, held.offset as usize, chunk);
     *handle = advance(held, chunk.len() as u32);
     Ok(())
 }
 
 // 1 and 19: what a finalize asks before it is a set.
+#[tactic(auto, unfolding(spec::specs::Status::refuse_if))]
 fn finalize_status(
     kv: &[u8],
     rbp: &[u8],
     device_key: &[u8],
     handle: IncSetHandle,
     staging: &[u8],
-) -> u32
-    ensures { result ≡ first_of (finalize_early kv.now rbp.now device_key.now handle staging.now) }
+) -> Result<(), Refusal>
+    ensures { status_of result ≡ first_of (finalize_early kv.now rbp.now device_key.now handle staging.now) }
 {
     if !areas::area_sized(AreaKind::Kv, kv) {
-        return status::ERR_LENGTH;
+        return Err(Refusal::Length);
     }
     if !areas::area_sized(AreaKind::Rbp, rbp) {
-        return status::ERR_LENGTH;
+        return Err(Refusal::Length);
     }
-    if !guard::both(device_key.len() == 16, staging.len() == 480) {
-        return status::ERR_LENGTH;
+    if device_key.len() != 16 {
+        return Err(Refusal::Length);
     }
-    let broken = handle_status(handle);
-    if broken != status::OK {
-        return broken;
+    if staging.len() != 480 {
+        return Err(Refusal::Length);
     }
+    handle_status(handle)?;
     if handle.offset != handle.final_data_size {
-        return status::ERR_TRANSFER_SIZE;
+        return Err(Refusal::TransferSize);
     }
-    status::OK
+    Ok(())
 }
 
 pub fn set_finalize(
@@ -181,10 +170,7 @@ pub fn set_finalize(
 {
     let name = handle.name;
     let iv = handle.iv;
-    let status = finalize_status(kv, rbp, device_key, handle, staging);
-    if status != status::OK {
-        return Err(Refusal::Other(status));
-    }
+    finalize_status(kv, rbp, device_key, handle, staging)?;
     let name_len = handle.name_len as usize;
     let held = handle.offset as usize;
     set::set(

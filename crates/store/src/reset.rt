@@ -7,6 +7,7 @@ use crate::status::Refusal;
 use buffers::parts;
 use slots::{AreaKind, areas};
 
+#[tactic(auto, unfolding(spec::specs::Status::refuse_if, spec::specs::Status::on_ok, spec::specs::Calls::store_reset))]
 pub fn reset(kv: &mut [u8], rbp: &mut [u8]) -> Result<(), Refusal>
     ensures { record { answer = record { status = status_of result; numbers = []; output = [] }; after = record { kv = kv.new; rbp = rbp.new } } ≡ Calls.store_reset kv.old rbp.old }
 {

@@ -10,33 +10,34 @@ ghost use Rattle.spec.specs.Calls.{binding_of, room_of, store_set};
 ghost use Rattle.spec.specs.Demand2.{Undamaged};
 ghost use Rattle.slots.specs.Found.{CanInsert};
 ghost use Rattle.store.specs.Answers.{status_of};
-ghost use Rattle.store.specs.Parts.{set_arguments, set_early, binding_given, judged, record_written};
+ghost use Rattle.store.specs.Parts.{set_arguments, set_early, stored_tests, binding, judgement, judged, record_written};
 
-use crate::judge::Judged;
+use crate::judge::{Held, Judged};
 use crate::status::Refusal;
-use crate::{guard, judge, status};
+use crate::{guard, judge};
 use buffers::parts;
 use cipher::kdf;
 use cipher::tables::Tables;
 use records::keys::Keys;
 use records::{flags as flag, record};
-use slots::areas::Found;
+use slots::areas::{Area, Found};
 use slots::{AreaKind, areas, names};
 
 // 3 to 5.
-pub fn argument_status(name: &[u8], flags: u32, data: &[u8]) -> u32
-    ensures { result ≡ first_of (set_arguments name.now flags «data».now) }
+#[tactic(auto, unfolding(spec::specs::Status::refuse_if))]
+pub fn argument_status(name: &[u8], flags: u32, data: &[u8]) -> Result<(), Refusal>
+    ensures { status_of result ≡ first_of (set_arguments name.now flags «data».now) }
 {
     if !names::valid_name(name) {
-        return status::ERR_INVALID_NAME;
+        return Err(Refusal::InvalidName);
     }
     if !flag::valid_flags(flags) {
-        return status::ERR_INVALID_FLAGS;
+        return Err(Refusal::InvalidFlags);
     }
     if 480 < data.len() {
-        return status::ERR_DATA_SIZE;
+        return Err(Refusal::DataSize);
     }
-    status::OK
+    Ok(())
 }
 
 // 1 to 5: what a set asks before it looks the name up.
@@ -48,54 +49,62 @@ pub fn early_status(
     flags: u32,
     iv: &[u8],
     data: &[u8],
-) -> u32
-    ensures { result ≡ first_of (set_early kv.now rbp.now device_key.now name.now flags iv.now «data».now) }
+) -> Result<(), Refusal>
+    ensures { status_of result ≡ first_of (set_early kv.now rbp.now device_key.now name.now flags iv.now «data».now) }
 {
-    let areas = guard::guard_areas(kv, rbp, guard::both(device_key.len() == 16, iv.len() == 8));
-    if areas != status::OK {
-        return areas;
-    }
+    guard::guard_areas(kv, rbp, device_key.len() == 16 && iv.len() == 8)?;
     argument_status(name, flags, data)
 }
 
-// 8, 7, 9 where the card holds the name; 7 where it does not; then 12.
-pub fn held_status(flags: u32, held: bool, stored: &[u8], tag_held: bool) -> u32
-    ensures { result ≡ first_of (set_held require_replay_protection flags (binding_given held stored.now tag_held [])) }
+// 8, 7, 9 of the record that the card holds.
+#[tactic(auto, unfolding(spec::specs::Status::refuse_if))]
+fn stored_status(flags: u32, stored: &[u8]) -> Result<(), Refusal>
+    ensures { status_of result ≡ first_of (stored_tests flags stored.now) }
 {
-    if held {
-        if !record::record_valid(stored) {
-            return status::ERR_INVALID_RECORD;
-        }
-        let old_flags = record::record_flags(stored);
-        if flag::write_once(old_flags) {
-            return status::ERR_ALREADY_EXISTS;
-        }
-        if flag::write_once(flags) {
-            return status::ERR_ALREADY_EXISTS;
-        }
-        if flags != old_flags {
-            return status::ERR_FLAGS_MISMATCH;
-        }
-        return judge::downgrade_status(flags, tag_held);
+    if !record::record_valid(stored) {
+        return Err(Refusal::InvalidRecord);
     }
-    if guard::both(flag::write_once(flags), tag_held) {
-        return status::ERR_ALREADY_EXISTS;
+    let old_flags = record::record_flags(stored);
+    if flag::write_once(old_flags) || flag::write_once(flags) {
+        return Err(Refusal::AlreadyExists);
     }
-    judge::downgrade_status(flags, tag_held)
+    if flags != old_flags {
+        return Err(Refusal::FlagsMismatch);
+    }
+    Ok(())
+}
+
+// 8, 7, 9 where the card holds the name; 7 where it does not; then 12.
+pub fn held_status(flags: u32, held: Held<'_>) -> Result<(), Refusal>
+    ensures { status_of result ≡ first_of (set_held require_replay_protection flags (binding held.entry)) }
+{
+    match held.stored {
+        Some(stored) => stored_status(flags, stored)?,
+        None if flag::write_once(flags) && held.tag.is_some() => {
+            return Err(Refusal::AlreadyExists);
+        }
+        None => {}
+    }
+    judge::downgrade_status(flags, held.tag.is_some())
 }
 
 // 10, or done.
-pub fn space_status(flags: u32, held: bool, kv_space: bool, tag_held: bool, rbp_space: bool) -> u32
-    ensures { result ≡ first_of (space_tests require_replay_protection flags (binding_given held [] tag_held []) (record { kv = kv_space; rbp = rbp_space })) }
+#[tactic(auto, using(crate::proofs::Given::some_option), unfolding(spec::specs::Status::refuse_if))]
+pub fn space_status(
+    flags: u32,
+    held: Held<'_>,
+    kv_space: bool,
+    rbp_space: bool,
+) -> Result<(), Refusal>
+    ensures { status_of result ≡ first_of (space_tests require_replay_protection flags (binding held.entry) (record { kv = kv_space; rbp = rbp_space })) }
 {
-    if guard::both(!held, !kv_space) {
-        return status::ERR_NO_SPACE;
+    if !held.stored.is_some() && !kv_space {
+        return Err(Refusal::NoSpace);
     }
-    let full = guard::both(!tag_held, !rbp_space);
-    if guard::both(flag::require_replay_protection(flags), full) {
-        return status::ERR_NO_SPACE;
+    if flag::require_replay_protection(flags) && (!held.tag.is_some() && !rbp_space) {
+        return Err(Refusal::NoSpace);
     }
-    status::OK
+    Ok(())
 }
 
 // The record of the arguments. The tables are taken once, and the device key prepared once, where the flags ask for keys.
@@ -139,6 +148,23 @@ pub fn write_record(
     }
 }
 
+// What a set decides of what the name has, and of room.
+fn verdict(kv: &[u8], rbp: &[u8], flags: u32, held: Held<'_>) -> Result<(), Refusal>
+    requires { Undamaged kv.now rbp.now }
+    ensures { status_of result ≡ first_of (set_held require_replay_protection flags (binding held.entry) ++ space_tests require_replay_protection flags (binding held.entry) (room_of kv.now rbp.now)) }
+{
+    held_status(flags, held)?;
+    let card = Area {
+        kind: AreaKind::Kv,
+        bytes: kv,
+    };
+    let chip = Area {
+        kind: AreaKind::Rbp,
+        bytes: rbp,
+    };
+    space_status(flags, held, card.has_space(), chip.has_space())
+}
+
 pub fn judge(
     kv: &[u8],
     rbp: &[u8],
@@ -148,23 +174,16 @@ pub fn judge(
     iv: &[u8],
     data: &[u8],
 ) -> Judged
-    ensures { result ≡ judged kv.now rbp.now name.now (set_early kv.now rbp.now device_key.now name.now flags iv.now «data».now) (set_held require_replay_protection flags (binding_of kv.now rbp.now name.now) ++ space_tests require_replay_protection flags (binding_of kv.now rbp.now name.now) (room_of kv.now rbp.now)) }
+    ensures { judgement result ≡ judged kv.now rbp.now name.now (set_early kv.now rbp.now device_key.now name.now flags iv.now «data».now) (set_held require_replay_protection flags (binding_of kv.now rbp.now name.now) ++ space_tests require_replay_protection flags (binding_of kv.now rbp.now name.now) (room_of kv.now rbp.now)) }
 {
-    let early = early_status(kv, rbp, device_key, name, flags, iv, data);
-    if early != status::OK {
-        return judge::refused(early);
+    if let Err(refusal) = early_status(kv, rbp, device_key, name, flags, iv, data) {
+        return judge::refused(refusal);
     }
-    let found = areas::find(AreaKind::Kv, kv, name);
-    let entry = areas::find(AreaKind::Rbp, rbp, name);
-    let stored = areas::payload_at(AreaKind::Kv, kv, found);
-    let held = held_status(flags, found.held, stored, entry.held);
-    let kv_space = areas::has_space(AreaKind::Kv, kv);
-    let rbp_space = areas::has_space(AreaKind::Rbp, rbp);
-    let space = space_status(flags, found.held, kv_space, entry.held, rbp_space);
+    let looked = judge::look_up(kv, rbp, name);
     Judged {
-        status: status::first(held, space),
-        found,
-        entry,
+        verdict: verdict(kv, rbp, flags, looked.held),
+        found: looked.found,
+        entry: looked.entry,
     }
 }
 
@@ -180,9 +199,7 @@ pub fn set(
     ensures { record { answer = record { status = status_of result; numbers = []; output = [] }; after = record { kv = kv.new; rbp = rbp.new } } ≡ store_set kv.old rbp.old device_key.now name.now flags iv.now «data».now }
 {
     let judged = judge(kv, rbp, device_key, name, flags, iv, data);
-    if judged.status != status::OK {
-        return Err(Refusal::Other(judged.status));
-    }
+    judged.verdict?;
     let key = parts::array::<16>(device_key);
     let iv8 = parts::array::<8>(iv);
     write_record(

@@ -22,7 +22,6 @@ pub enum Refusal {
     TransferSize,
     InvalidMix,
     Ambiguous,
-    Other(u32),
 }
 
 impl Refusal {
@@ -47,7 +46,6 @@ impl Refusal {
             Refusal::TransferSize => 19,
             Refusal::InvalidMix => 20,
             Refusal::Ambiguous => 21,
-            Refusal::Other(n) => n,
         }
     }
 }

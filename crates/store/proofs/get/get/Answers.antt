@@ -1,14 +1,39 @@
--- `store::get::get`: 1 to 3, then what is left.
+-- `store::get::get`: 1 to 3, then what needs no key, then what the record gives.
 use mathlib.Core.Path.{sym, ◌∙◌}
-use Rattle.store.proofs.GetCall.{got_early}
+use Rattle.store.specs.Parts.{binding}
+use Rattle.store.proofs.Tests.{refused_number, handed_answer}
+use Rattle.store.proofs.GetCall.{get-sane, get_key, got_early, keyless_refused, got_record}
 use Rattle.store.proofs.get.get.Goals as goal
 
-pub returns-then-early-ne-OK : goal.returns-then-early-ne-OK
-returns-then-early-ne-OK c =
-    let early-status = c.early_status-early in
+pub returns-in_err-early_status : goal.returns-in_err-early_status
+returns-in_err-early_status c =
     let args = c.args in
-    got_early args.kv.now args.rbp.now args.device_key.now args.name.now args.offset args.output.now
-    early-status.result early-status.ensures c.if-early-ne-OK.true
+    handed_answer _ _ args.output.now c.from_residual.ensures
+    ∙ got_early args.kv.now args.rbp.now args.device_key.now args.name.now args.offset args.output.now _ c.in_err-early_status.ensures (refused_number _)
 
-pub get_held-requires : goal.get_held-requires
-get_held-requires c = sym c.early_status-early.ensures ∙ c.if-early-ne-OK.false
+pub look_up-requires : goal.look_up-requires
+look_up-requires c = get-sane c.args.kv.now c.args.rbp.now c.args.device_key.now c.args.name.now (sym c.in_ok-early_status.ensures)
+
+pub returns-in_err-stored : goal.returns-in_err-stored
+returns-in_err-stored c =
+    let args = c.args in
+    let b = binding c.look_up.result.held in
+    handed_answer _ _ args.output.now c.from_residual-in_err-stored.ensures
+    ∙ keyless_refused args.kv.now args.rbp.now args.device_key.now args.name.now args.offset (sym c.in_ok-early_status.ensures)
+    b c.look_up.ensures.held args.output.now _ c.in_err-stored.ensures.tests (refused_number _)
+
+pub key_for-device-requires : goal.key_for-device-requires
+key_for-device-requires c =
+    (get_key c.args.kv.now c.args.rbp.now c.args.device_key.now c.args.name.now (sym c.in_ok-early_status.ensures), c.in_ok-stored.ensures.stored.1)
+
+pub get_record-requires : goal.get_record-requires
+get_record-requires c = record { stored_value = c.in_ok-stored.ensures.stored.1; ready_for = c.key_for-device.ensures.ready_for }
+
+pub returns : goal.returns
+returns c =
+    let args = c.args in
+    let b = binding c.look_up.result.held in
+    let seen = c.in_ok-stored in
+    c.get_record.ensures
+    ∙ got_record args.kv.now args.rbp.now args.device_key.now args.name.now args.offset (sym c.in_ok-early_status.ensures)
+    b c.look_up.ensures.held seen.ensures.tests seen.stored.now seen.ensures.stored.0 _ c.key_for-device.ensures.key_value args.output.now

@@ -1,45 +1,57 @@
 -- `store::get::get_info`: what the judgement says, then size and flags are read.
+use mathlib.Core.Path.{sym, ap, ◌∙◌}
+use mathlib.Core.List.{[], ◌∷◌}
+use Prim.Native.Nat.{ℕ}
+use Rattle.std.specs.Prelude.{Result}
+use Rattle.spec.specs.Status.{Answer}
+use Rattle.store.specs.declared.answers.Info.{Info}
+use Rattle.store.specs.declared.status.Refusal.{Refusal}
+use Rattle.store.specs.Answers.{status_of, value_or, no_info}
+use Rattle.store.specs.Parts.{judgement}
+use Rattle.store.proofs.Tests.{refused_number, handed_on}
 use Rattle.store.proofs.GetCall.{get_accepted, info-refused, info-done}
 use Rattle.store.proofs.get.get_info.Goals as goal
 
-pub returns-then-judged-ne-OK : goal.returns-then-judged-ne-OK
-returns-then-judged-ne-OK c =
+abbrev answer : Result Info Refusal → Answer
+answer r = record { status = status_of r; numbers = (value_or no_info r).data_size ∷ (value_or no_info r).flags ∷ []; output = [] }
+
+abbrev refused : ℕ → Answer
+refused s = record { status = s; numbers = 0 ∷ 0 ∷ []; output = [] }
+
+pub returns-in_err-judged : goal.returns-in_err-judged
+returns-in_err-judged c =
     let args = c.args in
     let judge = c.judge-judged in
-    info-refused args.kv.now args.rbp.now args.device_key.now args.name.now judge.result judge.ensures c.if-judged-ne-OK.true
+    let was = ap status_of c.in_err-judged.was in
+    ap answer (handed_on _ _ c.from_residual.ensures)
+    ∙ ap refused (sym was)
+    ∙ info-refused args.kv.now args.rbp.now args.device_key.now args.name.now (judgement judge.result) judge.ensures (λ z. refused_number _ (sym was ∙ z))
 
 pub payload_at-stored-requires : goal.payload_at-stored-requires
 payload_at-stored-requires c =
     let args = c.args in
     let judge = c.judge-judged in
-    let a = get_accepted args.kv.now args.rbp.now args.device_key.now args.name.now 0 judge.result judge.ensures c.if-judged-ne-OK.false in
+    let a = get_accepted args.kv.now args.rbp.now args.device_key.now args.name.now 0 (judgement judge.result) judge.ensures (ap status_of c.in_ok-judged.was) in
     a.kv_found
 
 pub record_data_size-requires : goal.record_data_size-requires
 record_data_size-requires c =
     let args = c.args in
     let judge = c.judge-judged in
-    let if1 = c.if-judged-ne-OK in
-    let a = get_accepted args.kv.now args.rbp.now args.device_key.now args.name.now 0 judge.result judge.ensures if1.false in
+    let a = get_accepted args.kv.now args.rbp.now args.device_key.now args.name.now 0 (judgement judge.result) judge.ensures (ap status_of c.in_ok-judged.was) in
     a.valid _ c.payload_at-stored.ensures
 
 pub record_flags-requires : goal.record_flags-requires
 record_flags-requires c =
     let args = c.args in
     let judge = c.judge-judged in
-    let if1 = c.if-judged-ne-OK in
-    let payload-at = c.payload_at-stored in
-    let a = get_accepted args.kv.now args.rbp.now args.device_key.now args.name.now 0 judge.result judge.ensures if1.false in
-    a.valid _ payload-at.ensures
+    let a = get_accepted args.kv.now args.rbp.now args.device_key.now args.name.now 0 (judgement judge.result) judge.ensures (ap status_of c.in_ok-judged.was) in
+    a.valid _ c.payload_at-stored.ensures
 
 pub returns : goal.returns
 returns c =
     let args = c.args in
     let judge = c.judge-judged in
-    let if1 = c.if-judged-ne-OK in
-    let payload-at = c.payload_at-stored in
-    let record-data-size = c.record_data_size in
-    let record-flags = c.record_flags in
-    let a = get_accepted args.kv.now args.rbp.now args.device_key.now args.name.now 0 judge.result judge.ensures if1.false in
-    info-done args.kv.now args.rbp.now args.device_key.now args.name.now judge.result judge.ensures a
-    _ payload-at.ensures record-data-size.result record-flags.result record-data-size.ensures record-flags.ensures
+    let a = get_accepted args.kv.now args.rbp.now args.device_key.now args.name.now 0 (judgement judge.result) judge.ensures (ap status_of c.in_ok-judged.was) in
+    info-done args.kv.now args.rbp.now args.device_key.now args.name.now (judgement judge.result) judge.ensures a
+    _ c.payload_at-stored.ensures c.record_data_size.result c.record_flags.result c.record_data_size.ensures c.record_flags.ensures

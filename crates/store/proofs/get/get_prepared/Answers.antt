@@ -1,22 +1,31 @@
 -- `store::get::get_prepared`: a refusal without a key, or what the record gives.
-use Rattle.store.proofs.GetCall.{get-sane, looked-refused, got_refused, found_ok}
+use mathlib.Core.Path.{refl, ◌∙◌}
+use Rattle.store.specs.Parts.{binding}
+use Rattle.store.proofs.Tests.{refused_number, handed_answer}
+use Rattle.store.proofs.GetCall.{get-sane, keyless_refused, got_record}
 use Rattle.store.proofs.get.get_prepared.Goals as goal
 
-pub look_up-seen-requires : goal.look_up-seen-requires
-look_up-seen-requires c =
-    get-sane c.args.kv.now c.args.rbp.now c.args.keys.now.device.now.key c.args.keys.now.name.now c.requires.name_value
+pub look_up-requires : goal.look_up-requires
+look_up-requires c = get-sane c.args.kv.now c.args.rbp.now c.args.keys.now.device.now.key c.args.keys.now.name.now c.requires.name_value
 
-pub returns-then-seen-ne-OK : goal.returns-then-seen-ne-OK
-returns-then-seen-ne-OK c =
-    let look_up = c.look_up-seen in
+pub returns-in_err-stored : goal.returns-in_err-stored
+returns-in_err-stored c =
     let args = c.args in
-    let seen = looked-refused args.kv.now args.rbp.now args.keys.now.device.now.key args.keys.now.name.now c.requires.name_value
-    look_up.result look_up.ensures args.offset c.if-seen-ne-OK.true in
-    got_refused args.kv.now args.rbp.now args.keys.now.device.now.key args.keys.now.name.now args.offset
-    look_up.result seen args.output.now c.if-seen-ne-OK.true
+    let keys = args.keys.now in
+    let b = binding c.look_up.result.held in
+    handed_answer _ _ args.output.now c.from_residual.ensures
+    ∙ keyless_refused args.kv.now args.rbp.now keys.device.now.key keys.name.now args.offset c.requires.name_value
+    b c.look_up.ensures.held args.output.now _ c.in_err-stored.ensures.tests (refused_number _)
 
-pub get_found-requires : goal.get_found-requires
-get_found-requires c =
-    let if1 = c.if-seen-ne-OK in
-    let look_up = c.look_up-seen in
-    record { name_value = c.requires.name_value; value = found_ok look_up.result _ if1.false look_up.ensures; ready_for = λ _. c.requires.ready }
+pub get_record-requires : goal.get_record-requires
+get_record-requires c = record { stored_value = c.in_ok-stored.ensures.stored.1; ready_for = λ _. c.requires.ready }
+
+pub returns : goal.returns
+returns c =
+    let args = c.args in
+    let keys = args.keys.now in
+    let b = binding c.look_up.result.held in
+    let seen = c.in_ok-stored in
+    c.get_record.ensures
+    ∙ got_record args.kv.now args.rbp.now keys.device.now.key keys.name.now args.offset c.requires.name_value
+    b c.look_up.ensures.held seen.ensures.tests seen.stored.now seen.ensures.stored.0 _ refl args.output.now

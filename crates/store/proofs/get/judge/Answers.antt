@@ -1,23 +1,40 @@
 -- `store::get::judge`: 1 to 3, then what is left.
-use mathlib.Core.Path.{sym, ◌∙◌}
+use mathlib.Core.Path.{refl, sym, ap, ◌∙◌}
 use Rattle.spec.specs.Record.{require_replay_protection}
+use Rattle.spec.specs.Request.{Binding}
+use Rattle.spec.specs.Status.{first_of}
 use Rattle.spec.specs.Decisions.{get_held}
 use Rattle.spec.specs.Calls.{binding_of}
 use Rattle.store.specs.Parts.{get_early}
-use Rattle.store.proofs.Judged.{judged-refused}
+use Rattle.store.proofs.Tests.{refused_number}
+use Rattle.store.proofs.Judged.{judged-refused, judged-here}
+use Rattle.store.proofs.GetCall.{get-sane, get_key}
 use Rattle.store.proofs.get.judge.Goals as goal
 
-pub returns-then-early-ne-OK : goal.returns-then-early-ne-OK
-returns-then-early-ne-OK c =
+pub returns-in-Err : goal.returns-in-Err
+returns-in-Err c =
     let args = c.args in
-    let early-status = c.early_status-early in
-    let if1 = c.if-early-ne-OK in
     let kv = args.kv.now in
     let rbp = args.rbp.now in
     let key = args.device_key.now in
     let n = args.name.now in
     let rest = get_held require_replay_protection key n args.offset (binding_of kv rbp n) in
-    c.refused.ensures ∙ judged-refused kv rbp n (get_early kv rbp key n) rest early-status.result early-status.ensures if1.true
+    c.refused.ensures ∙ judged-refused kv rbp n (get_early kv rbp key n) rest _ c.in-Err.ensures (refused_number _)
 
-pub judge_held-requires : goal.judge_held-requires
-judge_held-requires c = sym c.early_status-early.ensures ∙ c.if-early-ne-OK.false
+pub look_up-looked-requires : goal.look_up-looked-requires
+look_up-looked-requires c = get-sane c.args.kv.now c.args.rbp.now c.args.device_key.now c.args.name.now (sym c.in_default.ensures)
+
+pub verdict-requires : goal.verdict-requires
+verdict-requires c = get_key c.args.kv.now c.args.rbp.now c.args.device_key.now c.args.name.now (sym c.in_default.ensures)
+
+pub returns : goal.returns
+returns c =
+    let args = c.args in
+    let kv = args.kv.now in
+    let rbp = args.rbp.now in
+    let key = args.device_key.now in
+    let n = args.name.now in
+    let looked = c.look_up-looked.ensures in
+    let rest = get_held require_replay_protection key n args.offset (binding_of kv rbp n) in
+    let decided = c.verdict.ensures ∙ ap (λ (b : Binding). first_of (get_held require_replay_protection key n args.offset b)) looked.held in
+    judged-here kv rbp n (get_early kv rbp key n) rest refl (sym c.in_default.ensures) _ _ _ decided looked.found looked.entry

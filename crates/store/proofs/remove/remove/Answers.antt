@@ -1,44 +1,43 @@
 -- `store::remove::remove`: what the judgement says, then the slots are taken out.
+use mathlib.Core.Path.{sym, ap, ◌∙◌}
+use Prim.Native.Nat.{ℕ}
+use Rattle.spec.specs.Calls.{areas}
+use Rattle.store.specs.Answers.{status_of}
+use Rattle.store.specs.Parts.{judgement}
+use Rattle.store.proofs.Tests.{refused_number, handed_status}
+use Rattle.store.proofs.Judged.{Left}
 use Rattle.store.proofs.RemoveCall.{remove-refused, remove_accepted}
 use Rattle.store.proofs.remove.remove.Goals as goal
 
-pub returns-then-judged-ne-OK : goal.returns-then-judged-ne-OK
-returns-then-judged-ne-OK c =
-    let args = c.args in
+pub returns-in_err-judged : goal.returns-in_err-judged
+returns-in_err-judged c =
+    let kv = c.args.kv.now in
+    let rbp = c.args.rbp.now in
     let judge = c.judge-judged in
-    remove-refused args.kv.now args.rbp.now args.name.now judge.result judge.ensures c.if-judged-ne-OK.true
+    let was = ap status_of c.in_err-judged.was in
+    ap (λ (s : ℕ). Left s (areas kv rbp)) (handed_status _ _ c.from_residual.ensures ∙ sym was)
+    ∙ remove-refused kv rbp c.args.name.now (judgement judge.result) judge.ensures (λ z. refused_number _ (sym was ∙ z))
 
 pub payload_at-requires : goal.payload_at-requires
 payload_at-requires c =
-    let args = c.args in
     let judge = c.judge-judged in
-    let if1 = c.if-judged-ne-OK in
-    let a = remove_accepted args.kv.now args.rbp.now args.name.now judge.result judge.ensures if1.false in
+    let a = remove_accepted c.args.kv.now c.args.rbp.now c.args.name.now (judgement judge.result) judge.ensures (ap status_of c.in_ok-judged.was) in
     a.kv_found
 
 pub record_flags-flags-requires : goal.record_flags-flags-requires
 record_flags-flags-requires c =
-    let args = c.args in
     let judge = c.judge-judged in
-    let if1 = c.if-judged-ne-OK in
-    let a = remove_accepted args.kv.now args.rbp.now args.name.now judge.result judge.ensures if1.false in
+    let a = remove_accepted c.args.kv.now c.args.rbp.now c.args.name.now (judgement judge.result) judge.ensures (ap status_of c.in_ok-judged.was) in
     a.valid _ c.payload_at.ensures
 
 pub erase_record-requires : goal.erase_record-requires
 erase_record-requires c =
-    let args = c.args in
     let judge = c.judge-judged in
-    let if1 = c.if-judged-ne-OK in
-    let a = remove_accepted args.kv.now args.rbp.now args.name.now judge.result judge.ensures if1.false in
+    let a = remove_accepted c.args.kv.now c.args.rbp.now c.args.name.now (judgement judge.result) judge.ensures (ap status_of c.in_ok-judged.was) in
     record { undamaged = a.undamaged; held_value = (a.held, a.kv_found.1, a.rbp_found) }
 
 pub returns : goal.returns
 returns c =
-    let args = c.args in
     let judge = c.judge-judged in
-    let if1 = c.if-judged-ne-OK in
-    let payload-at = c.payload_at in
-    let record-flags = c.record_flags-flags in
-    let erase-record = c.erase_record in
-    let a = remove_accepted args.kv.now args.rbp.now args.name.now judge.result judge.ensures if1.false in
-    a.done _ payload-at.ensures record-flags.result record-flags.ensures _ erase-record.ensures
+    let a = remove_accepted c.args.kv.now c.args.rbp.now c.args.name.now (judgement judge.result) judge.ensures (ap status_of c.in_ok-judged.was) in
+    a.done _ c.payload_at.ensures c.record_flags-flags.result c.record_flags-flags.ensures _ c.erase_record.ensures

@@ -1,117 +1,62 @@
 -- `store::set::held_status`: 8, 7, 9 for a known name, 7 for a new one; then 12.
-use mathlib.Core.Path.{sym, ◌∙◌}
-use mathlib.Core.List.{[]}
-use borrow.Author.Tests.{ne_eqb, eq-eqb}
-use Rattle.spec.specs.Status.{refuse_if}
-use Rattle.spec.specs.Decisions.{set_held}
-use Rattle.store.proofs.Given.{some-given}
-use Rattle.store.proofs.Tests.{is_false, is_true}
-use Rattle.std.proofs.Common.{ap, not}
+use mathlib.Core.Path.{◌≡◌, refl, sym, ap, ◌∙◌}
+use mathlib.Core.Bool.{Bool, true, false, ◌&&◌}
+use mathlib.Core.List.{List, ◌∷◌, ◌++◌}
+use mathlib.Core.Option.{none, some}
+use Prim.Native.Nat.{ℕ}
+use Rattle.spec.specs.Status.{◌when◌, refuse_if, first_of}
+use Rattle.spec.specs.Record.{require_replay_protection, write_once}
+use Rattle.spec.specs.Request.{Binding}
+use Rattle.spec.specs.Decisions.{in_chip, set_held}
+use Rattle.store.specs.Parts.{given, binding, stored_tests, downgrade_tests}
+use Rattle.store.proofs.Given.{some_option}
+use Rattle.store.proofs.Tests.{stopped, went_on}
+use Rattle.store.proofs.set.held_status.Goals.{in-Some+in_ok-stored_status-in-Some, in-None+then-write_once+else-is_some, in-None+else-write_once}
 use Rattle.store.proofs.set.held_status.Goals as goal
 
-pub returns-then-not-record_valid : goal.returns-then-not-record_valid
-unfolding set_held refuse_if
-returns-then-not-record_valid c =
-    let if1 = c.if-held in
-    let record-valid = c.record_valid in
-    rw (if1.true, is_false record-valid.ensures (ap not c.if-not-record_valid.true))
+module _ (flags : ℕ) (b : Binding) where
+  known : (r : List ℕ) → b.stored ≡ some r
+      → first_of (stored_tests flags r ++ downgrade_tests flags (in_chip b)) ≡ first_of (set_held require_replay_protection flags b)
+  unfolding set_held refuse_if
+  known r e = rw e
 
-pub record_flags-old_flags-requires : goal.record_flags-old_flags-requires
-record_flags-old_flags-requires c =
-    let record-valid = c.record_valid in
-    is_true record-valid.ensures (ap not c.if-not-record_valid.false)
+  absent : b.stored ≡ none → (t : Bool) → (write_once flags && in_chip b) ≡ t
+      → first_of ((7 when t) ∷ downgrade_tests flags (in_chip b)) ≡ first_of (set_held require_replay_protection flags b)
+  unfolding set_held refuse_if
+  absent e t w = rw (e, w)
 
-pub returns-then-write_once : goal.returns-then-write_once
-unfolding set_held refuse_if
-returns-then-write_once c =
-    let if1 = c.if-held in
-    let record-valid = c.record_valid in
-    let if2 = c.if-not-record_valid in
-    let record-flags = c.record_flags-old_flags in
-    let write-once = c.write_once in
-    rw (
-      if1.true,
-      is_true record-valid.ensures (ap not if2.false),
-      ← record-flags.ensures,
-      sym write-once.ensures ∙ c.if-write_once.true,
-    )
+pub returns-in_err-stored_status-in-Some : goal.returns-in_err-stored_status-in-Some
+returns-in_err-stored_status-in-Some c =
+    let flags = c.args.flags in
+    let b = binding c.args.held in
+    let r = c.in-Some.stored.now in
+    stopped (stored_tests flags r) (downgrade_tests flags (in_chip b)) _ _ c.from_residual.ensures c.in_err-stored_status-in-Some.ensures
+    ∙ known flags b r (ap given c.in-Some.is)
 
-pub returns-then-write_once-2 : goal.returns-then-write_once-2
-unfolding set_held refuse_if
-returns-then-write_once-2 c =
-    let if1 = c.if-held in
-    let record-valid = c.record_valid in
-    let if2 = c.if-not-record_valid in
-    let record-flags = c.record_flags-old_flags in
-    let write-once = c.write_once in
-    let if3 = c.if-write_once in
-    let write-once2 = c.write_once-then-held in
-    rw (
-      if1.true,
-      is_true record-valid.ensures (ap not if2.false),
-      ← record-flags.ensures,
-      sym write-once.ensures ∙ if3.false,
-      sym write-once2.ensures ∙ c.if-write_once-2.true,
-    )
-
-pub returns-then-flags-old_flags : goal.returns-then-flags-old_flags
-unfolding set_held refuse_if
-returns-then-flags-old_flags c =
-    let if1 = c.if-held in
-    let record-valid = c.record_valid in
-    let if2 = c.if-not-record_valid in
-    let record-flags = c.record_flags-old_flags in
-    let write-once = c.write_once in
-    let if3 = c.if-write_once in
-    let write-once2 = c.write_once-then-held in
-    let if4 = c.if-write_once-2 in
-    rw (
-      if1.true,
-      is_true record-valid.ensures (ap not if2.false),
-      ← record-flags.ensures,
-      sym write-once.ensures ∙ if3.false,
-      sym write-once2.ensures ∙ if4.false,
-      ne_eqb _ _ c.if-flags-old_flags.true,
-    )
-
-pub returns-then-held : goal.returns-then-held
-unfolding set_held refuse_if
-returns-then-held c =
-    let args = c.args in
-    let if1 = c.if-held in
-    let record-valid = c.record_valid in
-    let if2 = c.if-not-record_valid in
-    let record-flags = c.record_flags-old_flags in
-    let write-once = c.write_once in
-    let if3 = c.if-write_once in
-    let write-once2 = c.write_once-then-held in
-    let if4 = c.if-write_once-2 in
-    let if5 = c.if-flags-old_flags in
-    c.downgrade_status.ensures ∙ rw (
-      if1.true,
-      is_true record-valid.ensures (ap not if2.false),
-      ← record-flags.ensures,
-      sym write-once.ensures ∙ if3.false,
-      sym write-once2.ensures ∙ if4.false,
-      some-given args.tag_held [],
-      eq-eqb _ _ if5.false,
-    )
-
-pub returns-then-both : goal.returns-then-both
-unfolding set_held refuse_if
-returns-then-both c =
-    let args = c.args in
-    let if1 = c.if-held in
-    let write-once3 = c.write_once-2 in
-    let both = c.both in
-    rw (if1.false, some-given args.tag_held [], ← write-once3.ensures, sym both.ensures ∙ c.if-both.true)
+pub returns-in-None : goal.returns-in-None
+unfolding refuse_if
+returns-in-None c =
+    let b = binding c.args.held in
+    let asked : (write_once c.args.flags && in_chip b) ≡ true =
+    rw (← c.if-write_once.ensures) (some_option c.args.held.tag ∙ sym c.if-is_some.ensures) in
+    absent c.args.flags b (ap given c.in-None.is) true asked
 
 pub returns : goal.returns
-unfolding set_held refuse_if
+unfolding refuse_if
 returns c =
-    let args = c.args in
-    let if1 = c.if-held in
-    let write-once3 = c.write_once-2 in
-    let both = c.both in
-    let if6 = c.if-both in
-    c.downgrade_status-2.ensures ∙ rw (if1.false, some-given args.tag_held [], ← write-once3.ensures, sym both.ensures ∙ if6.false)
+    let flags = c.args.flags in
+    let b = binding c.args.held in
+    let chip = some_option c.args.held.tag in
+    let last = c.downgrade_status.ensures ∙ ap (λ (t : Bool). first_of (downgrade_tests flags t)) (c.is_some-2.ensures ∙ sym chip) in
+    elim c.match-held.branch [
+      | in-Some+in_ok-stored_status-in-Some w ↦
+          went_on (stored_tests flags w.in-Some.stored.now) (downgrade_tests flags (in_chip b)) refl w.in_ok-stored_status-in-Some.ensures _ last
+          ∙ known flags b w.in-Some.stored.now (ap given w.in-Some.is)
+      | in-None+then-write_once+else-is_some w ↦
+          let asked : (write_once flags && in_chip b) ≡ false =
+          rw (← w.write_once.ensures, w.if-write_once.true) (chip ∙ sym w.is_some.ensures ∙ w.if-is_some.false) in
+          last ∙ absent flags b (ap given w.in-None.is) false asked
+      | in-None+else-write_once w ↦
+          let asked : (write_once flags && in_chip b) ≡ false = rw (← w.write_once.ensures, w.if-write_once.false) in
+          last ∙ absent flags b (ap given w.in-None.is) false asked
+    ]

@@ -1,0 +1,26 @@
+-- `store::get::verdict`: what needs no key, then the rest.
+use mathlib.Core.Path.{refl, sym, ap, ◌∙◌}
+use Rattle.spec.specs.Decisions.{record_of, get_held}
+use Rattle.spec.specs.Status.{first_of}
+use Rattle.store.specs.Parts.{binding, keyless_tests, keyed_tests}
+use Rattle.store.proofs.Tests.{stopped, went_on}
+use Rattle.store.proofs.get.verdict.Goals as goal
+
+pub returns-in_err-stored : goal.returns-in_err-stored
+unfolding get_held
+returns-in_err-stored c =
+    let args = c.args in
+    let b = binding args.held in
+    stopped (keyless_tests b) (keyed_tests args.device_key.now args.name.now args.offset (record_of b.stored) b.tag)
+    _ _ c.from_residual.ensures c.in_err-stored.ensures.tests
+
+pub returns : goal.returns
+unfolding get_held
+returns c =
+    let args = c.args in
+    let b = binding args.held in
+    let key = c.key_for-device.ensures.key_value in
+    let stored = sym (ap record_of c.in_ok-stored.ensures.stored.0) in
+    let last = c.held_status.ensures ∙ (λ i. first_of (keyed_tests (key i) args.name.now args.offset (stored i) b.tag)) in
+    went_on (keyless_tests b) (keyed_tests args.device_key.now args.name.now args.offset (record_of b.stored) b.tag)
+    refl c.in_ok-stored.ensures.tests _ last
