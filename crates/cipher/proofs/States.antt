@@ -1,5 +1,6 @@
 -- States and the sixteen bytes that they stand for. Assumes nothing.
-use Rattle.std.proofs.Common.{◌≡◌, ℕ, zero, suc, ◌+◌, ◌-◌, ◌/◌, ◌≤◌, List, ◌∷◌, length, get_or, take, drop, sym, refl, ap, ◌∙◌, ap₂, arith, get_or-drop, take_all, drop-cons, drop-drop}
+use Rattle.std.proofs.Common.{◌≡◌, ℕ, zero, suc, ◌+◌, ◌-◌, ◌*◌, ◌/◌, ◌<◌, ◌≤◌, List, [], ◌∷◌, length, get_or, take, drop, sym, refl, ap, ◌∙◌, ap₂, arith, get_or-drop, length-drop, length-take-le, take_all, drop-cons, drop-drop}
+use Rattle.std.specs.Simd.{first_chunks}
 use mathlib.Core.List.{zip_with}
 use Rattle.cipher.specs.Aes.{State, word_at, state_of, word_bytes, block_of, xor_word, add_round_key, cipher, kept_key, encrypt_with}
 use Rattle.cipher.specs.Sbox.{table_from}
@@ -50,10 +51,29 @@ pub chain_link : (ks m : List ℕ) (s x n : State) → 16 ≤ length m → x ≡
     → block_of n ≡ encrypt_with ks (xor_bytes (block_of s) (take 16 m))
 chain_link ks m s x n h f e = encrypted ks _ x n e (ap block_of f ∙ block-sum (state_of m) s ∙ ap (xor_bytes (block_of s)) (block-state m h))
 
+-- a chunk of a message
+pub chunk-at : (k i : ℕ) (l : List ℕ) → i < k → get_or (first_chunks 16 k l) i [] ≡ take 16 (drop (16 * i) l)
+chunk-at zero i l h = absurd (omega arith)
+chunk-at (suc k) zero l h = refl
+chunk-at (suc k) (suc i) l h =
+    let on : 16 + 16 * i ≡ 16 * suc i = omega arith in
+    chunk-at k i (drop 16 l) (omega arith) ∙ ap (take 16) (drop-drop (16 * i) 16 l ∙ ap (λ (n : ℕ). drop n l) on)
+
+-- a chunk added to a state and encrypted, in bytes
+pub chunk_link : (ks l b : List ℕ) (i : ℕ) (s x n : State) → i < length l / 16 → b ≡ take 16 (drop (16 * i) l)
+    → x ≡ add_round_key (state_of b) s → n ≡ cipher (kept_key ks) x
+    → block_of n ≡ encrypt_with ks (xor_bytes (block_of s) (take 16 (drop (16 * i) l)))
+chunk_link ks l b i s x n h e f g =
+    let d = drop (16 * i) l in
+    let sized : length (take 16 d) ≡ 16 = length-take-le 16 d (rw length-drop (omega arith)) in
+    chain_link ks (take 16 d) s x n (omega arith) (f ∙ ap (λ (m : List ℕ). add_round_key (state_of m) s) e) g
+    ∙ ap (λ (m : List ℕ). encrypt_with ks (xor_bytes (block_of s) m)) (take_all 16 (take 16 d) (omega arith))
+
 -- one block of the chain
-pub chain-step : (ciph : List ℕ → List ℕ) (l c n : List ℕ) (i : ℕ) → i + 16 ≤ length l → n ≡ ciph (xor_bytes c (take 16 (drop i l)))
-    → chain ciph ((length l - (i + 16)) / 16) n (drop (i + 16) l) ≡ chain ciph ((length l - i) / 16) c (drop i l)
+pub chain-step : (ciph : List ℕ → List ℕ) (l c n : List ℕ) (i : ℕ) → i < length l / 16 → n ≡ ciph (xor_bytes c (take 16 (drop (16 * i) l)))
+    → chain ciph (length l / 16 - (i + 1)) n (drop (16 * (i + 1)) l) ≡ chain ciph (length l / 16 - i) c (drop (16 * i) l)
 unfolding chain
 chain-step ciph l c n i h e =
-    let more : (length l - i) / 16 ≡ suc ((length l - (i + 16)) / 16) = omega arith in
-    rw more (ap₂ (chain ciph ((length l - (i + 16)) / 16)) e (sym (drop-drop 16 i l)))
+    let more : length l / 16 - i ≡ suc (length l / 16 - (i + 1)) = omega arith in
+    let on : 16 * i + 16 ≡ 16 * (i + 1) = omega arith in
+    rw more (ap₂ (chain ciph (length l / 16 - (i + 1))) e (sym (drop-drop 16 (16 * i) l ∙ ap (λ (k : ℕ). drop k l) on)))

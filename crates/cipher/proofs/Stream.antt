@@ -47,7 +47,7 @@ pub same-high : (count next : ℕ) → count < 2 ^ 64 → next ≡ (count + 1) %
 same-high count next h e k = omega arith
 
 -- the count of the next block
-pub next-count : (at count i : ℕ) → at ≡ (count + i / 16) % 2 ^ 64 → (at + 1) % 2 ^ 64 ≡ (count + (i + 16) / 16) % 2 ^ 64
+pub next-count : (at count i : ℕ) → at ≡ (count + i) % 2 ^ 64 → (at + 1) % 2 ^ 64 ≡ (count + (i + 1)) % 2 ^ 64
 next-count at count i e = omega arith
 
 -- so long the counter blocks share their first round, but for the last column

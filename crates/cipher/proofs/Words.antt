@@ -1,5 +1,7 @@
 -- Words and the 32-bit numbers that hold them, and the S-box's entries. Assumes nothing.
-use Rattle.std.proofs.Common.{◌≡◌, ℕ, zero, suc, ◌+◌, ◌*◌, ◌/◌, ◌%◌, ◌^◌, ◌<◌, get_or, sym, refl, ap, ◌∙◌, le_of_suc-le-suc, not-suc-le-zero, add-zero, zero-add, arith}
+use Rattle.std.proofs.Common.{◌≡◌, ℕ, zero, suc, ◌+◌, ◌*◌, ◌/◌, ◌%◌, ◌^◌, ◌<◌, get_or, sym, refl, ap, ◌∙◌, le_of_suc-le-suc, not-suc-le-zero, add-zero, zero-add, add_comm, arith, w32}
+use Rattle.std.specs.Int.{rotate_right}
+use Rattle.std.specs.Int.Bits.{bit_or, or_shifted_r}
 use native.Mathlib.Nat.{div-div-eq-div-mul}
 use lib.Bits.{bit_xor, xor_shr, xor_mod}
 use Rattle.cipher.specs.Sbox.{sub_byte, sbox, table_from}
@@ -85,25 +87,41 @@ module _ (w a b c d : ℕ) (ha : a < 256) (hb : b < 256) (hc : c < 256) (hd : d 
   turn_3 : w / 0x1000000 + w % 0x1000000 * 0x100 ≡ b * 0x1000000 + c * 0x10000 + d * 0x100 + a
   turn_3 = omega arith
 
--- the same of any 32-bit number, in words
+-- std's rotation, in words
 module _ (x : ℕ) (h : x < 2 ^ 32) where
   abbrev bytes : Bytes32 x
   bytes = bytes32 x h
 
-  pub turned-1 : number_word (x / 0x100 + x % 0x100 * 0x1000000) ≡ rot_word (rot_word (rot_word (number_word x)))
+  -- two parts that share no bit
+  joined : (a k b : ℕ) → b < 2 ^ k → (x * 2 ^ k) % 2 ^ 32 ≡ a * 2 ^ k → bit_or b ((x * 2 ^ k) % 2 ^ 32) ≡ b + a * 2 ^ k
+  joined a k b l e = ap (bit_or b) e ∙ or_shifted_r a k b l ∙ add_comm (a * 2 ^ k) b
+
+  rotated-1 : rotate_right w32 x 8 ≡ x / 0x100 + x % 0x100 * 0x1000000
+  rotated-1 = joined (x % 0x100) 24 (x / 0x100) (omega arith) (omega arith)
+
+  rotated-2 : rotate_right w32 x 16 ≡ x / 0x10000 + x % 0x10000 * 0x10000
+  rotated-2 = joined (x % 0x10000) 16 (x / 0x10000) (omega arith) (omega arith)
+
+  rotated_3 : rotate_right w32 x 24 ≡ x / 0x1000000 + x % 0x1000000 * 0x100
+  rotated_3 = joined (x % 0x1000000) 8 (x / 0x1000000) (omega arith) (omega arith)
+
+  pub turned-1 : number_word (rotate_right w32 x 8) ≡ rot_word (rot_word (rot_word (number_word x)))
   unfolding number_word rot_word
   turned-1 =
-      word_of _ _ _ _ _ bytes.b3 bytes.b0 bytes.b1 bytes.b2
-      (turn-1 x _ _ _ _ bytes.b0 bytes.b1 bytes.b2 bytes.b3 bytes.sum)
+      rw rotated-1
+      (word_of _ _ _ _ _ bytes.b3 bytes.b0 bytes.b1 bytes.b2
+      (turn-1 x _ _ _ _ bytes.b0 bytes.b1 bytes.b2 bytes.b3 bytes.sum))
 
-  pub turned-2 : number_word (x / 0x10000 + x % 0x10000 * 0x10000) ≡ rot_word (rot_word (number_word x))
+  pub turned-2 : number_word (rotate_right w32 x 16) ≡ rot_word (rot_word (number_word x))
   unfolding number_word rot_word
   turned-2 =
-      word_of _ _ _ _ _ bytes.b2 bytes.b3 bytes.b0 bytes.b1
-      (turn-2 x _ _ _ _ bytes.b0 bytes.b1 bytes.b2 bytes.b3 bytes.sum)
+      rw rotated-2
+      (word_of _ _ _ _ _ bytes.b2 bytes.b3 bytes.b0 bytes.b1
+      (turn-2 x _ _ _ _ bytes.b0 bytes.b1 bytes.b2 bytes.b3 bytes.sum))
 
-  pub turned_3 : number_word (x / 0x1000000 + x % 0x1000000 * 0x100) ≡ rot_word (number_word x)
+  pub turned_3 : number_word (rotate_right w32 x 24) ≡ rot_word (number_word x)
   unfolding number_word rot_word
   turned_3 =
-      word_of _ _ _ _ _ bytes.b1 bytes.b2 bytes.b3 bytes.b0
-      (turn_3 x _ _ _ _ bytes.b0 bytes.b1 bytes.b2 bytes.b3 bytes.sum)
+      rw rotated_3
+      (word_of _ _ _ _ _ bytes.b1 bytes.b2 bytes.b3 bytes.b0
+      (turn_3 x _ _ _ _ bytes.b0 bytes.b1 bytes.b2 bytes.b3 bytes.sum))

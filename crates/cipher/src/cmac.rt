@@ -7,9 +7,10 @@ ghost use Rattle.cipher.specs.CmacState.{keyed, begun, fed, finished, xor_from, 
 ghost use Rattle.cipher.specs.Pending.{state_with, none_pending};
 
 use crate::aes;
-use crate::aes::Columns;
+use crate::aes::{Cipher, Columns};
+use crate::mac_key::MacKey;
 use crate::tables::Tables;
-use buffers::{numbers, parts};
+use buffers::parts;
 
 // The running state: the chaining block with the pending bytes added to it, their count, and the expanded key.
 #[derive(Clone, Copy)]
@@ -64,33 +65,17 @@ fn add_bytes(block: [u8; 16], at: usize, data: &[u8]) -> [u8; 16]
     ensures { result ≡ xor_from block at «data».now }
 {
     let mut sum = block;
-    let mut i = 0;
-    while i < data.len() {
-        sum[at + i] = sum[at + i] ^ data[i];
-        i += 1;
+    for (i, b) in data.iter().enumerate() {
+        sum[at + i] ^= *b;
     }
     sum
-}
-
-// Whole blocks of a message, each added and then encrypted.
-fn chain_blocks(tables: &Tables, keys: &[u32; 44], s: Columns, data: &[u8]) -> Columns
-    ensures { block_of (columns_state result) ≡ chain (encrypt_with keys.now) (length «data».now / 16) (block_of (columns_state s)) «data».now }
-{
-    let mut chained = s;
-    let mut i = 0;
-    while 16 <= data.len() - i {
-        let x = aes::add(chained, aes::load_at(data, i));
-        chained = aes::encrypt_words(tables, keys, x.c0, x.c1, x.c2, x.c3);
-        i += 16;
-    }
-    chained
 }
 
 // The bytes before the last block, which is never empty unless the message is.
 fn before_last(len: usize) -> usize
     ensures { result ≡ 16 * ((len - 1) / 16) }
 {
-    if len == 0 { 0 } else { (len - 1) / 16 * 16 }
+    len.saturating_sub(1) / 16 * 16
 }
 
 // The last block, padded unless it is full, with its subkey added.
@@ -100,10 +85,10 @@ fn close_block(block: [u8; 16], pending: usize, zero: Columns) -> Columns
     let subkey1 = doubled(zero);
     if pending < 16 {
         let mut padded = block;
-        padded[pending] = padded[pending] ^ 0x80;
-        return aes::add(aes::load(&padded), doubled(subkey1));
+        padded[pending] ^= 0x80;
+        return Columns::load(&padded) ^ doubled(subkey1);
     }
-    aes::add(aes::load(&block), subkey1)
+    Columns::load(&block) ^ subkey1
 }
 
 // The same of a message's last block by itself: it is copied, not added byte by byte, and does not wait for the chain.
@@ -111,83 +96,83 @@ fn last_block(rest: &[u8], zero: Columns) -> Columns
     requires { length rest.now ≤ 16 }
     ensures { block_of (columns_state result) ≡ closed_block (xor_from (replicate 16 0) 0 rest.now) (length rest.now) (double (block_of (columns_state zero))) (double (double (block_of (columns_state zero)))) }
 {
-    let subkey1 = doubled(zero);
-    let n = rest.len();
-    if n < 16 {
-        let mut copied = [0u8; 16];
-        parts::paste(&mut copied, 0, rest);
-        copied[n] = 0x80;
-        return aes::add(aes::load(&copied), doubled(subkey1));
+    let mut block = [0u8; 16];
+    parts::paste(&mut block, 0, rest);
+    close_block(block, rest.len(), zero)
+}
+
+impl Cipher<'_> {
+    // Whole blocks of a message, each added and then encrypted.
+    fn chain_blocks(self, s: Columns, data: &[u8]) -> Columns
+        ensures { block_of (columns_state result) ≡ chain (encrypt_with self.entry.keys.now) (length «data».now / 16) (block_of (columns_state s)) «data».now }
+    {
+        let mut chained = s;
+        for block in data.as_chunks::<16>().0 {
+            let x = chained ^ Columns::load(block);
+            chained = self.encrypt_words(x.c0, x.c1, x.c2, x.c3);
+        }
+        chained
     }
-    aes::add(aes::load_at(rest, 0), subkey1)
-}
 
-// The block of zeros encrypted, from which the subkeys are made.
-pub(crate) fn zero_block(tables: &Tables, keys: &[u32; 44]) -> Columns
-    ensures { block_of (columns_state result) ≡ encrypt_with keys.now (replicate 16 0) }
-{
-    aes::encrypt_words(tables, keys, 0, 0, 0, 0)
-}
+    // Bytes behind a full block, which is encrypted now that another comes: whole blocks follow, and one to sixteen bytes are kept.
+    fn absorb_behind(self, block: [u8; 16], data: &[u8]) -> Pending
+        requires { 0 < length «data».now }
+        ensures { state_with result self.entry.keys.now ≡ fed (record { block = block; pending = 16; keys = self.entry.keys.now }) «data».now }
+    {
+        let full = Columns::load(&block);
+        let next = self.encrypt_words(full.c0, full.c1, full.c2, full.c3);
+        let end = before_last(data.len());
+        let chained = self.chain_blocks(next, &data[..end]);
+        let last = &data[end..];
+        Pending {
+            block: add_bytes(chained.store(), 0, last),
+            count: last.len(),
+        }
+    }
 
-// Bytes behind a full block, which is encrypted now that another comes: whole blocks follow, and one to sixteen bytes are kept.
-fn absorb_behind(tables: &Tables, keys: &[u32; 44], block: [u8; 16], data: &[u8]) -> Pending
-    requires { 0 < length «data».now }
-    ensures { state_with result keys.now ≡ fed (record { block = block; pending = 16; keys = keys.now }) «data».now }
-{
-    let full = aes::load(&block);
-    let next = aes::encrypt_words(tables, keys, full.c0, full.c1, full.c2, full.c3);
-    let end = before_last(data.len());
-    let chained = chain_blocks(tables, keys, next, &data[..end]);
-    let last = &data[end..];
-    Pending {
-        block: add_bytes(aes::store(chained), 0, last),
-        count: last.len(),
+    // Bytes fill the pending block first.
+    pub(crate) fn absorb(self, from: Pending, data: &[u8]) -> Pending
+        ensures { state_with result self.entry.keys.now ≡ fed (state_with from self.entry.keys.now) «data».now }
+    {
+        let block = from.block;
+        let p = from.count.min(16);
+        let n = data.len().min(16 - p);
+        let filled = add_bytes(block, p, &data[..n]);
+        if n == data.len() {
+            return Pending {
+                block: filled,
+                count: p + n,
+            };
+        }
+        self.absorb_behind(filled, &data[n..])
     }
 }
 
-// Bytes fill the pending block first.
-pub(crate) fn absorb(tables: &Tables, keys: &[u32; 44], from: Pending, data: &[u8]) -> Pending
-    ensures { state_with result keys.now ≡ fed (state_with from keys.now) «data».now }
-{
-    let block = from.block;
-    let p = numbers::least(from.count, 16);
-    let n = numbers::least(16 - p, data.len());
-    let filled = add_bytes(block, p, &data[..n]);
-    if n == data.len() {
-        return Pending {
-            block: filled,
-            count: p + n,
+impl MacKey<'_> {
+    // The tag of what was absorbed.
+    pub(crate) fn close(self, from: Pending) -> [u8; 16]
+        ensures { result ≡ (finished (state_with from self.entry.cipher.keys.now)).block }
+    {
+        let block = from.block;
+        let x = close_block(block, from.count.min(16), self.zero);
+        self.cipher.encrypt_words(x.c0, x.c1, x.c2, x.c3).store()
+    }
+
+    // The tag of a whole message.
+    pub(crate) fn tag_of(self, message: &[u8]) -> [u8; 16]
+        ensures { result ≡ cmac_over (encrypt_with self.entry.cipher.keys.now) message.now }
+    {
+        let end = before_last(message.len());
+        let start = Columns {
+            c0: 0,
+            c1: 0,
+            c2: 0,
+            c3: 0,
         };
+        let chained = self.cipher.chain_blocks(start, &message[..end]);
+        let x = chained ^ last_block(&message[end..], self.zero);
+        self.cipher.encrypt_words(x.c0, x.c1, x.c2, x.c3).store()
     }
-    absorb_behind(tables, keys, filled, &data[n..])
-}
-
-// The tag of what was absorbed.
-pub(crate) fn close(tables: &Tables, keys: &[u32; 44], zero: Columns, from: Pending) -> [u8; 16]
-    requires { block_of (columns_state zero) ≡ encrypt_with keys.now (replicate 16 0) }
-    ensures { result ≡ (finished (state_with from keys.now)).block }
-{
-    let block = from.block;
-    let x = close_block(block, numbers::least(from.count, 16), zero);
-    aes::store(aes::encrypt_words(tables, keys, x.c0, x.c1, x.c2, x.c3))
-}
-
-// The tag of a whole message under an expanded key.
-pub(crate) fn tag_of(tables: &Tables, keys: &[u32; 44], zero: Columns, message: &[u8]) -> [u8; 16]
-    requires { block_of (columns_state zero) ≡ encrypt_with keys.now (replicate 16 0) }
-    ensures { result ≡ cmac_over (encrypt_with keys.now) message.now }
-{
-    let end = before_last(message.len());
-    let start = Columns {
-        c0: 0,
-        c1: 0,
-        c2: 0,
-        c3: 0,
-    };
-    let chained = chain_blocks(tables, keys, start, &message[..end]);
-    let rest = &message[end..];
-    let x = aes::add(chained, last_block(rest, zero));
-    aes::store(aes::encrypt_words(tables, keys, x.c0, x.c1, x.c2, x.c3))
 }
 
 impl CmacState {
@@ -207,11 +192,21 @@ impl CmacState {
     pub fn begin(self) -> Self
         ensures { result ≡ begun self }
     {
-        let keys = self.keys;
         CmacState {
             block: [0; 16],
             pending: 0,
-            keys,
+            ..self
+        }
+    }
+
+    // What is pending, without the key.
+    fn pending_part(&self) -> Pending
+        ensures { state_with result self.now.keys ≡ self.now }
+    {
+        let block = self.block;
+        Pending {
+            block,
+            count: self.pending,
         }
     }
 
@@ -220,18 +215,12 @@ impl CmacState {
         ensures { result ≡ fed self «data».now }
     {
         let tables = Tables::new();
-        let keys = self.keys;
-        let block = self.block;
-        let from = Pending {
-            block,
-            count: self.pending,
-        };
-        let end = absorb(&tables, &keys, from, data);
+        let end = Cipher::new(&tables, &self.keys).absorb(self.pending_part(), data);
         let block = end.block;
         CmacState {
             block,
             pending: end.count,
-            keys,
+            ..self
         }
     }
 
@@ -240,17 +229,12 @@ impl CmacState {
         ensures { result ≡ finished self }
     {
         let tables = Tables::new();
-        let keys = self.keys;
-        let block = self.block;
-        let from = Pending {
-            block,
-            count: self.pending,
-        };
-        let tag = close(&tables, &keys, zero_block(&tables, &keys), from);
+        let mac = MacKey::new(Cipher::new(&tables, &self.keys));
+        let block = mac.close(self.pending_part());
         CmacState {
-            block: tag,
+            block,
             pending: 0,
-            keys,
+            ..self
         }
     }
 }
@@ -260,18 +244,17 @@ pub fn cmac_tag(key: [u8; 16], message: &[u8]) -> [u8; 16]
     ensures { result ≡ cmac key message.now }
 {
     let tables = Tables::new();
-    let mut keys = [0u32; 44];
-    aes::expand_into(&tables, &key, &mut keys);
-    tag_of(&tables, &keys, zero_block(&tables, &keys), message)
+    let keys = tables.expand_key(&key);
+    MacKey::new(Cipher::new(&tables, &keys)).tag_of(message)
 }
 
 // The tag of a message in two parts, with the tables lent.
 pub fn tag_parts(tables: &Tables, key: [u8; 16], first: &[u8], second: &[u8]) -> [u8; 16]
     ensures { result ≡ cmac key (first.now ++ second.now) }
 {
-    let mut keys = [0u32; 44];
-    aes::expand_into(tables, &key, &mut keys);
-    let start = absorb(tables, &keys, none_pending(), first);
-    let end = absorb(tables, &keys, start, second);
-    close(tables, &keys, zero_block(tables, &keys), end)
+    let keys = tables.expand_key(&key);
+    let cipher = Cipher::new(tables, &keys);
+    let start = cipher.absorb(none_pending(), first);
+    let end = cipher.absorb(start, second);
+    MacKey::new(cipher).close(end)
 }

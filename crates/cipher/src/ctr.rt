@@ -7,17 +7,17 @@ ghost use Rattle.cipher.specs.FirstRound.{shared_round};
 ghost use Rattle.cipher.specs.Cmac.{xor_bytes};
 ghost use Rattle.cipher.specs.Ctr.{counter_block, ctr_from, ctr_at, ctr};
 
-use crate::aes;
-use crate::aes::Columns;
+use crate::aes::{Cipher, Columns, word_at};
 use crate::tables::Tables;
+use buffers::parts;
 
 // The counter block as a state: the IV's two words, then the count's.
 fn counter_columns(iv: [u8; 8], count: u64) -> Columns
     ensures { columns_state result ≡ state_of (counter_block iv count) }
 {
     Columns {
-        c0: aes::word_at(&iv, 0),
-        c1: aes::word_at(&iv, 4),
+        c0: word_at(&iv, 0),
+        c1: word_at(&iv, 4),
         c2: (count / 0x100000000) as u32,
         c3: (count % 0x100000000) as u32,
     }
@@ -28,11 +28,8 @@ fn add_word(buf: &mut [u8], i: usize, w: u32)
     requires { i + 4 ≤ length buf.old }
     ensures { buf.new ≡ take i buf.old ++ word_bytes (xor_word (word_at buf.old i) (number_word w)) ++ drop (i + 4) buf.old }
 {
-    let x = aes::word_at(buf, i) ^ w;
-    buf[i] = (x / 0x1000000 % 256) as u8;
-    buf[i + 1] = (x / 0x10000 % 256) as u8;
-    buf[i + 2] = (x / 0x100 % 256) as u8;
-    buf[i + 3] = (x % 256) as u8;
+    let x = word_at(buf, i) ^ w;
+    parts::paste(buf, i, &x.to_be_bytes());
 }
 
 fn add_block(part: &mut [u8], s: Columns)
@@ -49,80 +46,74 @@ fn add_front(part: &mut [u8], stream: [u8; 16])
     requires { length part.old ≤ 16 }
     ensures { part.new ≡ xor_bytes part.old stream }
 {
-    let mut i: usize = 0;
-    while i < part.len() {
-        part[i] = part[i] ^ stream[i];
-        i += 1;
+    for i in 0..part.len() {
+        part[i] ^= stream[i];
     }
 }
 
-// What the next counter block shares with those after it: the same, until the low word of the count starts again.
-fn next_shared(
-    tables: &Tables,
-    keys: &[u32; 44],
-    iv: [u8; 8],
-    count: u64,
-    shared: Columns,
-) -> Columns
-    requires { columns_state shared ≡ shared_round (kept_key keys.now) (state_of (counter_block iv count)) }
-    ensures { columns_state result ≡ shared_round (kept_key keys.now) (state_of (counter_block iv ((count + 1) % 2 ^ 64))) }
+impl Cipher<'_> {
+    // What the next counter block shares with those after it: the same, until the low word of the count starts again.
+    fn next_shared(self, iv: [u8; 8], count: u64, shared: Columns) -> Columns
+        requires { columns_state shared ≡ shared_round (kept_key self.keys.now) (state_of (counter_block iv count)) }
+        ensures { columns_state result ≡ shared_round (kept_key self.entry.keys.now) (state_of (counter_block iv ((count + 1) % 2 ^ 64))) }
+    {
+        let next = count.wrapping_add(1);
+        if next % 0x100000000 == 0 {
+            return self.shared_round(counter_columns(iv, next));
+        }
+        shared
+    }
+
+    // Whole blocks in place, the first one's count given.
+    fn crypt_whole(self, iv: [u8; 8], count: u64, buf: &mut [u8])
+        requires { length buf.old % 16 ≡ 0 }
+        ensures { buf.new ≡ ctr_from (encrypt_with self.entry.keys.now) iv count 0 buf.old }
+    {
+        let mut shared = self.shared_round(counter_columns(iv, count));
+        let mut counter = count;
+        for i in 0..buf.len() / 16 {
+            let s = self.encrypt_shared(shared, (counter % 0x100000000) as u32);
+            add_block(&mut buf[16 * i..16 * i + 16], s);
+            shared = self.next_shared(iv, counter, shared);
+            counter = counter.wrapping_add(1);
+        }
+    }
+
+    // A buffer encrypted or decrypted in place, the first block's count given: whole blocks, then the last partial one.
+    fn crypt_blocks(self, iv: [u8; 8], count: u64, buf: &mut [u8])
+        ensures { buf.new ≡ ctr_from (encrypt_with self.entry.keys.now) iv count 0 buf.old }
+    {
+        let n = buf.len();
+        let end = n / 16 * 16;
+        self.crypt_whole(iv, count, &mut buf[..end]);
+        if end < n {
+            let x = counter_columns(iv, count.wrapping_add((n / 16) as u64));
+            let s = self.encrypt_words(x.c0, x.c1, x.c2, x.c3);
+            add_front(&mut buf[end..n], s.store());
+        }
+    }
+}
+
+// A buffer encrypted or decrypted in place, the first block's count given, with the tables lent.
+fn crypt_at(tables: &Tables, key: [u8; 16], iv: [u8; 8], count: u64, buf: &mut [u8])
+    ensures { buf.new ≡ ctr_at key iv count buf.old }
 {
-    let next = std::num::wrapping_add_u64(count, 1);
-    if next % 0x100000000 == 0 {
-        return aes::shared_round(tables, keys, counter_columns(iv, next));
-    }
-    shared
+    let keys = tables.expand_key(&key);
+    Cipher::new(tables, &keys).crypt_blocks(iv, count, buf)
 }
 
-// Whole blocks in place under an expanded key, the first one's count given.
-fn crypt_whole(tables: &Tables, keys: &[u32; 44], iv: [u8; 8], count: u64, buf: &mut [u8])
-    requires { length buf.old % 16 ≡ 0 }
-    ensures { buf.new ≡ ctr_from (encrypt_with keys.now) iv count 0 buf.old }
-{
-    let mut shared = aes::shared_round(tables, keys, counter_columns(iv, count));
-    let mut counter = count;
-    let mut i: usize = 0;
-    while i < buf.len() {
-        let end = i + 16;
-        let s = aes::encrypt_shared(tables, keys, shared, (counter % 0x100000000) as u32);
-        add_block(&mut buf[i..end], s);
-        shared = next_shared(tables, keys, iv, counter, shared);
-        counter = std::num::wrapping_add_u64(counter, 1);
-        i = end;
-    }
-}
-
-// A buffer encrypted or decrypted in place under an expanded key, the first block's count given: whole blocks, then the last partial one.
-fn crypt_blocks(tables: &Tables, keys: &[u32; 44], iv: [u8; 8], count: u64, buf: &mut [u8])
-    ensures { buf.new ≡ ctr_from (encrypt_with keys.now) iv count 0 buf.old }
-{
-    let n = buf.len();
-    let end = n / 16 * 16;
-    crypt_whole(tables, keys, iv, count, &mut buf[..end]);
-    if end < n {
-        let x = counter_columns(iv, std::num::wrapping_add_u64(count, (n / 16) as u64));
-        let s = aes::encrypt_words(tables, keys, x.c0, x.c1, x.c2, x.c3);
-        add_front(&mut buf[end..n], aes::store(s));
-    }
-}
-
-// A buffer encrypted or decrypted in place, the first block's count given.
+// The same with the tables taken here.
 pub fn ctr_xor_at(key: [u8; 16], iv: [u8; 8], count: u64, buf: &mut [u8])
     ensures { buf.new ≡ ctr_at key iv count buf.old }
 {
-    let tables = Tables::new();
-    let mut keys = [0u32; 44];
-    aes::expand_into(&tables, &key, &mut keys);
-    crypt_blocks(&tables, &keys, iv, count, buf)
+    crypt_at(&Tables::new(), key, iv, count, buf)
 }
 
 // A buffer encrypted or decrypted in place, the count from 0, with the tables lent.
 pub fn crypt(tables: &Tables, key: [u8; 16], iv: [u8; 8], buf: &mut [u8])
     ensures { buf.new ≡ ctr key iv buf.old }
 {
-    let mut keys = [0u32; 44];
-    aes::expand_into(tables, &key, &mut keys);
-    crypt_blocks(tables, &keys, iv, 0, buf)
+    crypt_at(tables, key, iv, 0, buf)
 }
 
 // A buffer encrypted or decrypted in place, the count from 0.

@@ -1,15 +1,15 @@
 // Key derivation in counter mode over CMAC (SP 800-108, 5.1), one block of output.
 
 ghost use Rattle.std.specs.Prelude.{◌≡◌, ◌++◌, replicate, if◌then◌else◌};
-ghost use Rattle.cipher.specs.Aes.{block_of, expand_key, encrypt_with};
-ghost use Rattle.cipher.specs.Columns.{columns_state};
+ghost use Rattle.cipher.specs.Aes.{expand_key};
 ghost use Rattle.cipher.specs.Kdf.{enc_prefix, auth_prefix, kdf, derived_key};
 ghost use Rattle.cipher.specs.Device.{prepared, bare, IsPrepared};
 
-use crate::aes::Columns;
+use crate::aes::{Cipher, Columns};
+use crate::cmac;
+use crate::mac_key::MacKey;
 use crate::tables::Tables;
-use crate::{aes, cmac};
-use buffers::{numbers, parts};
+use buffers::parts;
 
 // The prefixes of the two keys that each name has.
 const ENC: [u8; 3] = *b"ENC";
@@ -21,43 +21,30 @@ pub fn kdf_counter_cmac(key: [u8; 16], first: &[u8], second: &[u8]) -> [u8; 16]
     ensures { result ≡ kdf key (first.now ++ second.now) }
 {
     let tables = Tables::new();
-    let mut keys = [0u32; 44];
-    aes::expand_into(&tables, &key, &mut keys);
-    let counter = [1u8];
-    let length = [0u8, 0, 0, 0, 0x80];
-    let start = cmac::absorb(&tables, &keys, cmac::none_pending(), &counter);
-    let label = cmac::absorb(
-        &tables,
-        &keys,
-        cmac::absorb(&tables, &keys, start, first),
-        second,
-    );
-    let end = cmac::absorb(&tables, &keys, label, &length);
-    cmac::close(&tables, &keys, cmac::zero_block(&tables, &keys), end)
+    let keys = tables.expand_key(&key);
+    let cipher = Cipher::new(&tables, &keys);
+    let start = cipher.absorb(cmac::none_pending(), &[1]);
+    let label = cipher.absorb(cipher.absorb(start, first), second);
+    let end = cipher.absorb(label, &[0, 0, 0, 0, 0x80]);
+    MacKey::new(cipher).close(end)
 }
 
-// The key for a prefix and a name, which together are cut to 32 bytes: the CMAC of a message of at most 38 bytes under the expanded key.
-fn derive(
-    tables: &Tables,
-    key: [u8; 16],
-    keys: &[u32; 44],
-    zero: Columns,
-    prefix: &[u8],
-    name: &[u8],
-) -> [u8; 16]
-    requires expanded { keys.now ≡ expand_key key }
-    requires encrypted { block_of (columns_state zero) ≡ encrypt_with keys.now (replicate 16 0) }
-    ensures { result ≡ derived_key key prefix.now name.now }
-{
-    let p = numbers::least(prefix.len(), 32);
-    let n = numbers::least(name.len(), 32 - p);
-    let mut message = [0u8; 38];
-    message[0] = 1;
-    parts::paste(&mut message, 1, &prefix[..p]);
-    parts::paste(&mut message, p + 1, &name[..n]);
-    message[p + n + 5] = 0x80;
-    let end = p + n + 6;
-    cmac::tag_of(tables, keys, zero, &message[..end])
+impl MacKey<'_> {
+    // The key for a prefix and a name, which together are cut to 32 bytes: the CMAC of a message of at most 38 bytes.
+    fn derive(self, key: [u8; 16], prefix: &[u8], name: &[u8]) -> [u8; 16]
+        requires { self.cipher.keys.now ≡ expand_key key }
+        ensures { result ≡ derived_key key prefix.now name.now }
+    {
+        let p = prefix.len().min(32);
+        let n = name.len().min(32 - p);
+        let mut message = [0u8; 38];
+        message[0] = 1;
+        parts::paste(&mut message, 1, &prefix[..p]);
+        parts::paste(&mut message, p + 1, &name[..n]);
+        message[p + n + 5] = 0x80;
+        let end = p + n + 6;
+        self.tag_of(&message[..end])
+    }
 }
 
 // The key derived from the device key for a prefix and a name.
@@ -65,10 +52,8 @@ pub fn derive_key(device_key: [u8; 16], prefix: &[u8], name: &[u8]) -> [u8; 16]
     ensures { result ≡ derived_key device_key prefix.now name.now }
 {
     let tables = Tables::new();
-    let mut keys = [0u32; 44];
-    aes::expand_into(&tables, &device_key, &mut keys);
-    let zero = cmac::zero_block(&tables, &keys);
-    derive(&tables, device_key, &keys, zero, prefix, name)
+    let keys = tables.expand_key(&device_key);
+    MacKey::new(Cipher::new(&tables, &keys)).derive(device_key, prefix, name)
 }
 
 // The device key with what each derivation takes of it: its expansion, and the zero block encrypted under it.
@@ -82,9 +67,8 @@ pub struct DeviceKey {
 pub fn prepare(tables: &Tables, key: [u8; 16]) -> DeviceKey
     ensures { result ≡ prepared key }
 {
-    let mut keys = [0u32; 44];
-    aes::expand_into(tables, &key, &mut keys);
-    let zero = aes::store(cmac::zero_block(tables, &keys));
+    let keys = tables.expand_key(&key);
+    let zero = MacKey::new(Cipher::new(tables, &keys)).zero.store();
     DeviceKey { key, keys, zero }
 }
 
@@ -107,14 +91,11 @@ fn derive_prepared(tables: &Tables, device: &DeviceKey, prefix: &[u8], name: &[u
     requires { IsPrepared device.now }
     ensures { result ≡ derived_key device.now.key prefix.now name.now }
 {
-    derive(
-        tables,
-        device.key,
-        &device.keys,
-        aes::load(&device.zero),
-        prefix,
-        name,
-    )
+    let mac = MacKey {
+        cipher: Cipher::new(tables, &device.keys),
+        zero: Columns::load(&device.zero),
+    };
+    mac.derive(device.key, prefix, name)
 }
 
 // The key that a name's data is encrypted under.

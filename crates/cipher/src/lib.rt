@@ -5,4 +5,5 @@ pub mod aes;
 pub mod cmac;
 pub mod ctr;
 pub mod kdf;
+pub(crate) mod mac_key;
 pub mod tables;

@@ -4,7 +4,7 @@ ghost use Rattle.cipher.specs.Sbox.{sbox};
 ghost use Rattle.cipher.specs.Tables.{mix_table};
 
 // FIPS 197, figure 7. That it obeys the rule of 5.1.1 is what `sbox_table` ensures.
-const SBOX: [u8; 256] = [
+static SBOX: [u8; 256] = [
     0x63, 0x7c, 0x77, 0x7b, 0xf2, 0x6b, 0x6f, 0xc5, 0x30, 0x01, 0x67, 0x2b, 0xfe, 0xd7, 0xab, 0x76,
     0xca, 0x82, 0xc9, 0x7d, 0xfa, 0x59, 0x47, 0xf0, 0xad, 0xd4, 0xa2, 0xaf, 0x9c, 0xa4, 0x72, 0xc0,
     0xb7, 0xfd, 0x93, 0x26, 0x36, 0x3f, 0xf7, 0xcc, 0x34, 0xa5, 0xe5, 0xf1, 0x71, 0xd8, 0x31, 0x15,
@@ -24,7 +24,7 @@ const SBOX: [u8; 256] = [
 ];
 
 // For each byte, MixColumns of its substitute alone in the first row, as a 32-bit column.
-const MIX: [u32; 256] = [
+static MIX: [u32; 256] = [
     0xc66363a5, 0xf87c7c84, 0xee777799, 0xf67b7b8d, 0xfff2f20d, 0xd66b6bbd, 0xde6f6fb1, 0x91c5c554,
     0x60303050, 0x02010103, 0xce6767a9, 0x562b2b7d, 0xe7fefe19, 0xb5d7d762, 0x4dababe6, 0xec76769a,
     0x8fcaca45, 0x1f82829d, 0x89c9c940, 0xfa7d7d87, 0xeffafa15, 0xb25959eb, 0x8e4747c9, 0xfbf0f00b,
@@ -59,7 +59,6 @@ const MIX: [u32; 256] = [
     0x824141c3, 0x299999b0, 0x5a2d2d77, 0x1e0f0f11, 0x7bb0b0cb, 0xa85454fc, 0x6dbbbbd6, 0x2c16163a,
 ];
 
-// A constant is copied wherever it is named, so these serve `Tables::new` alone.
 pub fn sbox_table() -> [u8; 256]
     ensures { result ≡ sbox }
 {
@@ -72,21 +71,21 @@ pub fn mix_table() -> [u32; 256]
     MIX
 }
 
-// The tables of AES, which an operation takes once and lends on.
-#[derive(Drop)]
+// Both tables, lent as they stand, so that no operation copies one.
+#[derive(Clone, Copy)]
 pub struct Tables {
-    pub mix: [u32; 256],
-    pub sub: [u8; 256],
-    pub ghost right: { (mix ≡ mix_table) × (sub ≡ sbox) },
+    pub mix: &'static [u32; 256],
+    pub sub: &'static [u8; 256],
+    pub ghost right: { (mix.now ≡ mix_table) × (sub.now ≡ sbox) },
 }
 
 impl Tables {
     pub fn new() -> Self
-        ensures { (result.mix ≡ mix_table) × (result.sub ≡ sbox) }
+        ensures { (result.mix.now ≡ mix_table) × (result.sub.now ≡ sbox) }
     {
         Tables {
-            mix: mix_table(),
-            sub: sbox_table(),
+            mix: &MIX,
+            sub: &SBOX,
         }
     }
 }

@@ -8,4 +8,4 @@ pub returns : goal.returns
 returns c =
     let a = c.args in
     let bytes = array_fits w8 16 a.key _ c.well_formed.0 in
-    c.encrypt_block.ensures ∙ (rw c.expand_into.ensures (encrypt_expanded a.key bytes a.block))
+    c.encrypt_block.ensures ∙ (rw (c.new.ensures ∙ c.expand_key-keys.ensures) (encrypt_expanded a.key bytes a.block))

@@ -1,5 +1,5 @@
--- `cipher::aes::expand_key`: the words that `expand_into` leaves.
+-- `cipher::aes::expand_key`: the words that the tables give.
 use Rattle.cipher.proofs.aes.expand_key.Goals as goal
 
 pub returns : goal.returns
-returns c = c.expand_into.ensures
+returns c = c.expand_key.ensures

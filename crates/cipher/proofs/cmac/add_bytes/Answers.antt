@@ -6,18 +6,18 @@ use Rattle.cipher.proofs.Blocks.{xor-from-step}
 use Rattle.cipher.proofs.cmac.add_bytes.Goals as goal
 
 pub loop-i-init : goal.loop-i-init
-loop-i-init c = (search rules, good_length (e_int w8) 16 c.args.block _ c.well_formed.0, rw add-zero)
+loop-i-init c = (good_length (e_int w8) 16 c.args.block _ c.well_formed.0, rw add-zero)
 
 pub loop-i-preserved : goal.loop-i-preserved
 unfolding xor_at
 loop-i-preserved c =
     let l = c.loop-i in
     let a = c.args in
-    (search rules, search rules, xor-from-step l.sum a.«data».now a.at l.i (omega arith) ∙ l.invariant.2)
+    (search rules, xor-from-step l.sum a.«data».now a.at l.i (omega arith) ∙ l.invariant.1)
 
 pub returns : goal.returns
 returns c =
     let l = c.loop-i in
     let d = c.args.«data».now in
     let end : drop l.i d ≡ [] = drop_of_length-le d {i = l.i} (omega arith) in
-    rw end at l.invariant.2
+    rw end at l.invariant.1

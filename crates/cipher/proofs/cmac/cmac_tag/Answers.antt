@@ -7,4 +7,4 @@ use Rattle.cipher.proofs.cmac.cmac_tag.Goals as goal
 pub returns : goal.returns
 returns c =
     let key = c.args.key in
-    c.tag_of.ensures ∙ under-key key _ c.args.message.now (array_fits w8 16 key _ c.well_formed.0) c.expand_into.ensures
+    c.tag_of.ensures ∙ under-key key _ c.args.message.now (array_fits w8 16 key _ c.well_formed.0) (c.new-2.ensures ∙ c.new.ensures ∙ c.expand_key-keys.ensures)

@@ -13,8 +13,9 @@ returns c =
     let key = c.args.key in
     let a = c.args.first.now in
     let b = c.args.second.now in
-    let e₀ : state_with c.none_pending.result _ ≡ keyed key = ap₂ state_with c.none_pending.ensures c.expand_into.ensures in
+    let e₀ : state_with c.none_pending.result _ ≡ keyed key = ap₂ state_with c.none_pending.ensures (c.new-cipher.ensures ∙ c.expand_key-keys.ensures) in
     let e₁ : state_with c.absorb-start.result _ ≡ fed (keyed key) a = c.absorb-start.ensures ∙ ap (λ (s : CmacState). fed s a) e₀ in
     let e₂ : state_with c.absorb-end.result _ ≡ fed (fed (keyed key) a) b = c.absorb-end.ensures ∙ ap (λ (s : CmacState). fed s b) e₁ in
-    c.close.ensures ∙ ap (λ (s : CmacState). (finished s).block) e₂
+    let same = ap (state_with c.absorb-end.result) c.new.ensures in
+    c.close.ensures ∙ ap (λ (s : CmacState). (finished s).block) (same ∙ e₂)
     ∙ sym (one-shot-law.parts key (array_fits w8 16 key _ c.well_formed.1.0) a b)

@@ -1,13 +1,7 @@
--- `cipher::ctr::crypt`: the cipher under the expanded key is that under the key.
-use Rattle.std.proofs.Common.{ℕ, List, ap, ◌∙◌, w8}
-use Rattle.cipher.specs.Ctr.{ctr_from, ctr_at, ctr}
-use Rattle.cipher.proofs.Arrays.{array_fits}
-use Rattle.cipher.proofs.Expanded.{same-cipher}
+-- `cipher::ctr::crypt` starts at the count 0.
+use Rattle.cipher.specs.Ctr.{ctr}
 use Rattle.cipher.proofs.ctr.crypt.Goals as goal
 
 pub returns : goal.returns
-unfolding ctr ctr_at
-returns c =
-    let a = c.args in
-    let same = same-cipher a.key _ (array_fits w8 16 a.key _ c.well_formed.1.0) c.expand_into.ensures in
-    c.crypt_blocks.ensures ∙ ap (λ (f : List ℕ → List ℕ). ctr_from f a.iv 0 0 a.buf.now) same
+unfolding ctr
+returns c = c.crypt_at.ensures

@@ -1,5 +1,6 @@
--- `cipher::kdf::derive_key`: the expansion, and the zero block under it.
+-- `cipher::kdf::derive_key`: under the key's expansion.
+use Rattle.std.proofs.Common.{◌∙◌}
 use Rattle.cipher.proofs.kdf.derive_key.Goals as goal
 
 pub derive-requires : goal.derive-requires
-derive-requires c = record { expanded = c.expand_into.ensures; encrypted = c.zero_block-zero.ensures }
+derive-requires c = c.new-2.ensures ∙ c.new.ensures ∙ c.expand_key-keys.ensures

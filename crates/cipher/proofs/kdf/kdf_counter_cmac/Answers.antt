@@ -16,10 +16,11 @@ returns c =
     let counted = fed (keyed key) (1 ∷ []) in
     let labelled = fed (fed counted a) b in
     let end : List ℕ = 0 ∷ 0 ∷ 0 ∷ 0 ∷ 0x80 ∷ [] in
-    let e₀ : state_with c.none_pending.result _ ≡ keyed key = ap₂ state_with c.none_pending.ensures c.expand_into.ensures in
+    let e₀ : state_with c.none_pending.result _ ≡ keyed key = ap₂ state_with c.none_pending.ensures (c.new-cipher.ensures ∙ c.expand_key-keys.ensures) in
     let e₁ : state_with c.absorb-start.result _ ≡ counted = c.absorb-start.ensures ∙ ap (λ (s : CmacState). fed s (1 ∷ [])) e₀ in
     let e₂ : state_with c.absorb.result _ ≡ fed counted a = c.absorb.ensures ∙ ap (λ (s : CmacState). fed s a) e₁ in
     let e₃ : state_with c.absorb-label.result _ ≡ labelled = c.absorb-label.ensures ∙ ap (λ (s : CmacState). fed s b) e₂ in
     let e₄ : state_with c.absorb-end.result _ ≡ fed labelled end = c.absorb-end.ensures ∙ ap (λ (s : CmacState). fed s end) e₃ in
-    c.close.ensures ∙ ap (λ (s : CmacState). (finished s).block) e₄
+    let same = ap (state_with c.absorb-end.result) c.new.ensures in
+    c.close.ensures ∙ ap (λ (s : CmacState). (finished s).block) (same ∙ e₄)
     ∙ sym (one-shot-law.label key (array_fits w8 16 key _ c.well_formed.0) a b)

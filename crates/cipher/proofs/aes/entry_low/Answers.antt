@@ -1,9 +1,0 @@
--- `cipher::aes::entry_low`: byte 2 of an entry.
-use Rattle.std.proofs.Common.{ap}
-use Rattle.cipher.specs.Aes.{Word, number_word}
-use Rattle.cipher.specs.Tables.{mix_word}
-use Rattle.cipher.proofs.aes.entry_low.Goals as goal
-
-pub returns : goal.returns
-unfolding number_word mix_word
-returns c = ap (λ (w : Word). w.b2) c.mix_entry.ensures
