@@ -1,9 +1,9 @@
 -- Parts of byte strings, and byte strings put into a buffer one after the other. Assumes nothing.
 use mathlib.Core.Path.{◌≡◌, sym, ap, ◌∙◌}
 use mathlib.Core.List.{List, ◌++◌, append_assoc}
-use Prim.Native.Nat.{ℕ, ◌+◌, ◌-◌, ◌≤◌}
+use Prim.Native.Nat.{ℕ, ◌+◌, ◌-◌}
 use native.Mathlib.Omega.{arith}
-use lib.ListN.{length, take, drop, length-take, length-drop}
+use lib.ListN.{length, take, drop, length-drop}
 use lib.Seq.{take_all, take_at, drop-append-add, drop-drop}
 use borrow.Rule.Slice.PartMut.{put_mid}
 use Rattle.buffers.specs.Bytes.{zeros, zero_fill, put_at}
@@ -17,10 +17,7 @@ part o n l = let e : o + n - o ≡ n = omega arith in rw e
 pub rest_part : (l : List ℕ) (a : ℕ) → take (length l - a) (drop a l) ≡ drop a l
 rest_part l a = take_all (length l - a) (drop a l) (rw length-drop (omega arith))
 
--- a part of n bytes, and what is left where it comes back
-pub part_length : (d : List ℕ) (at n : ℕ) → at + n ≤ length d → length (take (at + n - at) (drop at d)) ≡ n
-part_length d at n h = rw (length-take, length-drop) (omega arith)
-
+-- a part of n bytes, where it comes back
 pub part-back : (d last s : List ℕ) (at n : ℕ) → last ≡ s → length s ≡ n → put_mid at (at + n - at) d last ≡ put_at d at s
 part-back d last s at n e h =
     let k : at + n - at ≡ length s = omega arith in

@@ -6,7 +6,7 @@ ghost use Rattle.text.specs.Written.{answer, left};
 // A writer answers how many bytes it wrote; a refusal has written none. The first two clauses of its contract say all; the third follows from them,
 // so that a caller can take `&out[0..count]` without a proof.
 
-// The value of a digit, or 16 for any other byte.
+// The value of a digit, or 16 for any other byte, which is the word of the laws (`HexLaws`).
 fn digit_value(c: u8) -> u8
     ensures { result ≡ hex_value c }
 {

@@ -31,7 +31,7 @@ fn part_start(s: &[u8], separator: u8, k: usize) -> usize
     s.len()
 }
 
-// Part k, counted from 0; where there are not so many, the empty part at the end.
+// Part k, counted from 0; where there are not so many, the empty part at the end. The library's `split` does not say where a part lies.
 pub fn part(s: &[u8], separator: u8, k: usize) -> &[u8]
     ensures { (result.now ≡ get_or (parts separator s.now) k []) × (result.ref_ptr ≡ part_place s.entry separator k) }
 {
