@@ -1,14 +1,12 @@
 // An area of slots, tested and edited where it is lent.
 ghost use Rattle.std.specs.Prelude.{◌≡◌, true, [], ◌++◌, ◌-◌, ◌≤◌, ◌<◌, ◌&&◌, ℕ, List, Bool, length, get_or, take, drop, IfSome};
-ghost use Rattle.std.specs.Borrow.{Bor};
 ghost use Rattle.std.specs.Option.{is_some, option_copied};
 ghost use Rattle.buffers.specs.Bytes.{zeros};
 ghost use Rattle.spec.specs.Slots.{first_index};
 ghost use Rattle.spec.specs.Area.{kv_format, payload_size, slot_free, slot_used, slot_valid, slot_name, make_slot, slot_count, slots, sized, intact, has_space};
 ghost use Rattle.spec.specs.Calls.{slot_has_prefix, next_match};
 ghost use Rattle.slots.specs.Kind.{format_of};
-ghost use Rattle.slots.specs.declared.slot.Slot.{Slot};
-ghost use Rattle.slots.specs.Search.{FailsBefore};
+ghost use Rattle.slots.specs.Search.{Tests, FailsBefore};
 ghost use Rattle.slots.specs.Found.{slot_for, found_in, slot_at, CanRead, CanInsert, payload, payload_at, insert_end, insert_at, erase_at};
 
 use crate::AreaKind;
@@ -111,11 +109,11 @@ impl<'a> Area<'a> {
         }
     }
 
-    // The first slot that passes the test, or the count of slots, by binary search: whatever stands behind one that passes is to pass. Not std's
-    // `partition_point`, which is of a list in memory: slots are as wide as the kind says.
+    // The first slot that passes the test, or the count of slots, by binary search. Std's `partition_point` is of a slice of elements, and an area is one of
+    // bytes, with slots as wide as its kind says.
     fn first_where<P: Fn(&Slot) -> bool>(&self, test: P) -> usize
         requires { P.IsAlwaysCallable test }
-        ensures { (t : List ℕ → Bool) → FailsBefore t (slots (format_of self.now.kind) self.now.bytes.now) → ((x : Bor Slot) (r : Bool) → x.now.kind ≡ self.now.kind → P.post test x r → r ≡ t x.now.bytes.now) → result ≡ first_index t (slots (format_of self.now.kind) self.now.bytes.now) }
+        ensures { (t : List ℕ → Bool) → Tests self.now.kind (P.post test) t → FailsBefore t (slots (format_of self.now.kind) self.now.bytes.now) → result ≡ first_index t (slots (format_of self.now.kind) self.now.bytes.now) }
     {
         let mut low = 0;
         let mut high = self.slot_count();
@@ -262,20 +260,6 @@ pub fn erase_at(kind: AreaKind, area: &mut [u8], found: Found)
 
 // ---- the same for callers that have kind and bytes apart
 
-pub fn has_space(kind: AreaKind, area: &[u8]) -> bool
-    requires { (sized (format_of kind) area.now ≡ true) × (intact (format_of kind) area.now ≡ true) }
-    ensures { result ≡ has_space (format_of kind) area.now }
-{
-    Area { kind, bytes: area }.has_space()
-}
-
-pub fn find(kind: AreaKind, area: &[u8], name: &[u8]) -> Found
-    requires { (sized (format_of kind) area.now ≡ true) × (intact (format_of kind) area.now ≡ true) }
-    ensures { result ≡ found_in (format_of kind) area.now name.now }
-{
-    Area { kind, bytes: area }.find(name)
-}
-
 pub fn prefix_at(kv: &[u8], prefix: &[u8], i: usize) -> bool
     requires { (sized kv_format kv.now ≡ true) × (intact kv_format kv.now ≡ true) × (i < slot_count kv_format kv.now) }
     ensures { result ≡ slot_has_prefix prefix.now (slot_at kv_format kv.now i) }
@@ -285,17 +269,6 @@ pub fn prefix_at(kv: &[u8], prefix: &[u8], i: usize) -> bool
         bytes: kv,
     }
     .prefix_at(prefix, i)
-}
-
-pub fn next_match(kv: &[u8], prefix: &[u8], start: usize) -> usize
-    requires { (sized kv_format kv.now ≡ true) × (intact kv_format kv.now ≡ true) }
-    ensures { result ≡ next_match kv.now prefix.now start }
-{
-    Area {
-        kind: AreaKind::Kv,
-        bytes: kv,
-    }
-    .next_match(prefix, start)
 }
 
 pub fn payload_at<'a>(kind: AreaKind, area: &'a [u8], found: Found) -> &'a [u8]

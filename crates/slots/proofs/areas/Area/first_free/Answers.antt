@@ -8,4 +8,4 @@ use Rattle.slots.proofs.areas.Area.first_free.Goals as goal
 pub returns : goal.returns
 returns c =
     let area = c.args.self.now in
-    c.first_where.ensures slot_free (free-fails (format_of area.kind) area.bytes.now area.sound.1) (λ x r k p. search rules)
+    c.first_where.ensures slot_free (λ x r k p. search rules) (free-fails (format_of area.kind) area.bytes.now area.sound.1)

@@ -17,7 +17,7 @@ loop-low-init g c =
     let area = c.args.self.now in
     let F = format_of area.kind in
     let l = area.bytes.now in
-    rw c.slot_count-high.ensures (omega arith, (sized-parts F l area.sound.0).2, λ t f p. (omega arith, first-at-most F l t))
+    rw c.slot_count-high.ensures (omega arith, (sized-parts F l area.sound.0).2, λ t p f. (omega arith, first-at-most F l t))
 
 pub overflow_add-mid : goal.overflow_add-mid
 overflow_add-mid g c = let inv = c.loop-low.invariant in let high = inv.0 in let most = inv.1 in omega arith
@@ -34,10 +34,10 @@ loop-low-preserved-then-test g c =
     let high = loop.invariant.0 in (
       omega arith,
       loop.invariant.1,
-      λ t f p.
+      λ t p f.
           let told : c.test.result ≡ t x = p _ _ c.slot.ensures.kind c.test.ensures in
           let passed : t x ≡ true = sym told ∙ c.if-test.true in
-          ((loop.invariant.2 t f p).0, upper-half (format_of area.kind) area.bytes.now t mid x c.slot.ensures.bytes passed),
+          ((loop.invariant.2 t p f).0, upper-half (format_of area.kind) area.bytes.now t mid x c.slot.ensures.bytes passed),
     )
 
 pub loop-low-preserved : goal.loop-low-preserved
@@ -51,13 +51,13 @@ loop-low-preserved g c =
     let high = loop.invariant.0 in (
       high,
       loop.invariant.1,
-      λ t f p.
+      λ t p f.
           let told : c.test.result ≡ t x = p _ _ c.slot.ensures.kind c.test.ensures in
           let failed : t x ≡ false = sym told ∙ c.if-test.false in
           let there : mid < length (slots F l) = rw (slots_length F l) (omega arith) in
           let below = f mid there (ap t (sym {b = slot_at F l mid} c.slot.ensures.bytes) ∙ failed) in
-          (omega arith, (loop.invariant.2 t f p).1),
+          (omega arith, (loop.invariant.2 t p f).1),
     )
 
 pub returns : goal.returns
-returns g c t f p = let b = c.loop-low.invariant.2 t f p in omega arith
+returns g c t p f = let b = c.loop-low.invariant.2 t p f in omega arith

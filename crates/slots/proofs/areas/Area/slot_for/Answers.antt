@@ -11,4 +11,4 @@ returns c =
     let area = c.args.self.now in
     let F = format_of area.kind in
     let name = c.args.name.now in
-    c.first_where.ensures (not_before (slot_holder F) name) (place-fails F area.bytes.now area.sound.1 name) (λ x r k p. search rules)
+    c.first_where.ensures (not_before (slot_holder F) name) (λ x r k p. search rules) (place-fails F area.bytes.now area.sound.1 name)
