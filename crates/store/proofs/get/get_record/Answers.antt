@@ -1,5 +1,6 @@
 -- `store::get::get_record`: what is decided, then the record is read.
-use mathlib.Core.Path.{refl, ◌∙◌}
+use mathlib.Core.Path.{refl, sym, ap, ◌∙◌}
+use Rattle.store.specs.Answers.{status_of}
 use Rattle.store.specs.Parts.{option_of}
 use Rattle.store.proofs.Tests.{refused_number, handed_answer}
 use Rattle.store.proofs.GetCall.{read-refused, read_in_range, read_done}
@@ -11,14 +12,14 @@ returns-in_err-held_status c =
     let keys = args.keys.now in
     handed_answer _ _ args.output.now c.from_residual.ensures
     ∙ read-refused keys.device.now.key keys.name.now args.offset args.stored.now (option_of args.tag) args.output.now
-    _ c.in_err-held_status.ensures (refused_number _)
+    _ (sym (ap status_of c.in_err-held_status.was) ∙ c.held_status.ensures) (refused_number _)
 
 pub read_record-requires-clause-stored_value : goal.read_record-requires-clause-stored_value
 read_record-requires-clause-stored_value c =
     let args = c.args in
     let keys = args.keys.now in
     let in_range = read_in_range keys.device.now.key keys.name.now args.offset args.stored.now (option_of args.tag) args.output.now
-    0 c.in_ok-held_status.ensures refl in
+    0 (sym (ap status_of c.in_ok-held_status.was) ∙ c.held_status.ensures) refl in
     (c.requires.stored_value, in_range)
 
 pub returns : goal.returns
@@ -27,4 +28,4 @@ returns c =
     let keys = args.keys.now in
     let read = c.read_record.ensures in
     read_done keys.device.now.key keys.name.now args.offset args.stored.now (option_of args.tag) args.output.now
-    0 c.in_ok-held_status.ensures refl _ _ read.value read.output_after
+    0 (sym (ap status_of c.in_ok-held_status.was) ∙ c.held_status.ensures) refl _ _ read.value read.output_after
