@@ -53,6 +53,24 @@ impl Columns {
     }
 }
 
+impl Columns {
+    // A column for each diagonal, from which ShiftRows makes one.
+    fn by_diagonal<F: Fn(u32, u32, u32, u32) -> u32>(self, column: F) -> Columns
+        requires { F.IsAlwaysCallable column }
+        ensures c0 { F.post column self.c0 self.c1 self.c2 self.c3 result.c0 }
+        ensures c1 { F.post column self.c1 self.c2 self.c3 self.c0 result.c1 }
+        ensures c2 { F.post column self.c2 self.c3 self.c0 self.c1 result.c2 }
+        ensures c3 { F.post column self.c3 self.c0 self.c1 self.c2 result.c3 }
+    {
+        Columns {
+            c0: column(self.c0, self.c1, self.c2, self.c3),
+            c1: column(self.c1, self.c2, self.c3, self.c0),
+            c2: column(self.c2, self.c3, self.c0, self.c1),
+            c3: column(self.c3, self.c0, self.c1, self.c2),
+        }
+    }
+}
+
 // The sum of two states.
 impl BitXor for Columns {
     type Output = Columns;
@@ -116,23 +134,13 @@ impl Tables {
     fn mix_columns(&self, s: Columns) -> Columns
         ensures { columns_state result ≡ mix_columns (shift_rows (sub_bytes (columns_state s))) }
     {
-        Columns {
-            c0: self.mixed(s.c0, s.c1, s.c2, s.c3),
-            c1: self.mixed(s.c1, s.c2, s.c3, s.c0),
-            c2: self.mixed(s.c2, s.c3, s.c0, s.c1),
-            c3: self.mixed(s.c3, s.c0, s.c1, s.c2),
-        }
+        s.by_diagonal(|a, b, c, d| self.mixed(a, b, c, d))
     }
 
     fn shift_rows(&self, s: Columns) -> Columns
         ensures { columns_state result ≡ shift_rows (sub_bytes (columns_state s)) }
     {
-        Columns {
-            c0: self.unmixed(s.c0, s.c1, s.c2, s.c3),
-            c1: self.unmixed(s.c1, s.c2, s.c3, s.c0),
-            c2: self.unmixed(s.c2, s.c3, s.c0, s.c1),
-            c3: self.unmixed(s.c3, s.c0, s.c1, s.c2),
-        }
+        s.by_diagonal(|a, b, c, d| self.unmixed(a, b, c, d))
     }
 
     // SubWord, for the key expansion.

@@ -4,7 +4,7 @@ ghost use Rattle.cipher.specs.Aes.{block_of, encrypt_with};
 ghost use Rattle.cipher.specs.Columns.{columns_state};
 ghost use Rattle.cipher.specs.Cmac.{double, chain, cmac_over, cmac};
 ghost use Rattle.cipher.specs.CmacState.{keyed, begun, fed, finished, xor_from, closed_block};
-ghost use Rattle.cipher.specs.Pending.{state_with, none_pending};
+ghost use Rattle.cipher.specs.Pending.{state_with};
 
 use crate::aes;
 use crate::aes::{Cipher, Columns};
@@ -27,14 +27,12 @@ pub(crate) struct Pending {
     pub(crate) count: usize,
 }
 
-// No message yet.
-pub(crate) fn none_pending() -> Pending
-    ensures { result ≡ none_pending }
-{
-    Pending {
+impl Pending {
+    // No message yet.
+    pub(crate) const NONE: Pending = Pending {
         block: [0; 16],
         count: 0,
-    }
+    };
 }
 
 // The bits of a one place to the left, and the first of b behind them.
@@ -254,7 +252,7 @@ pub fn tag_parts(tables: &Tables, key: [u8; 16], first: &[u8], second: &[u8]) ->
 {
     let keys = tables.expand_key(&key);
     let cipher = Cipher::new(tables, &keys);
-    let start = cipher.absorb(none_pending(), first);
+    let start = cipher.absorb(Pending::NONE, first);
     let end = cipher.absorb(start, second);
     MacKey::new(cipher).close(end)
 }

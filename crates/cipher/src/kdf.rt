@@ -6,7 +6,7 @@ ghost use Rattle.cipher.specs.Kdf.{enc_prefix, auth_prefix, kdf, derived_key};
 ghost use Rattle.cipher.specs.Device.{prepared, bare, IsPrepared};
 
 use crate::aes::{Cipher, Columns};
-use crate::cmac;
+use crate::cmac::Pending;
 use crate::mac_key::MacKey;
 use crate::tables::Tables;
 use buffers::parts;
@@ -23,7 +23,7 @@ pub fn kdf_counter_cmac(key: [u8; 16], first: &[u8], second: &[u8]) -> [u8; 16]
     let tables = Tables::new();
     let keys = tables.expand_key(&key);
     let cipher = Cipher::new(&tables, &keys);
-    let start = cipher.absorb(cmac::none_pending(), &[1]);
+    let start = cipher.absorb(Pending::NONE, &[1]);
     let label = cipher.absorb(cipher.absorb(start, first), second);
     let end = cipher.absorb(label, &[0, 0, 0, 0, 0x80]);
     MacKey::new(cipher).close(end)

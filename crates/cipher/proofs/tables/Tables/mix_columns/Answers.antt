@@ -1,4 +1,5 @@
 -- `cipher::aes::mix_columns`: its four columns are those that `mixed` gives.
+use Rattle.std.proofs.Common.{rules}
 use Rattle.cipher.specs.Aes.{mix_columns, shift_rows, sub_bytes, sub_word, diagonal}
 use Rattle.cipher.specs.Columns.{columns_state}
 use Rattle.cipher.proofs.Words.{state-ext}
@@ -6,6 +7,4 @@ use Rattle.cipher.proofs.tables.Tables.mix_columns.Goals as goal
 
 pub returns : goal.returns
 unfolding columns_state mix_columns shift_rows sub_bytes sub_word diagonal
-returns c =
-    state-ext c.mixed.ensures c.mixed-2.ensures
-    c.mixed-3.ensures c.mixed-4.ensures
+returns c = state-ext (search rules) (search rules) (search rules) (search rules)
