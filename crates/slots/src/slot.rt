@@ -163,11 +163,7 @@ impl<'a> Slot<'a> {
 pub fn has_prefix(name: &[u8], prefix: &[u8]) -> bool
     ensures { result ≡ has_prefix prefix.now name.now }
 {
-    let n = prefix.len();
-    if name.len() < n {
-        return false;
-    }
-    compare::bytes_equal(prefix, &name[0..n])
+    name.starts_with(prefix)
 }
 
 fn put_header(kind: AreaKind, slot: &mut [u8], name: &[u8], payload: &[u8])
