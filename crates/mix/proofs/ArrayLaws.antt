@@ -1,7 +1,7 @@
 -- A mix as three arrays: what the loops fill from the front, what encoding and decoding answer, and that what was encoded is given back. Assumes nothing.
 use mathlib.Core.Path.{◌≡◌, refl, sym, ap, ◌∙◌}
 use mathlib.Core.Logic.{◌≢◌}
-use mathlib.Core.Bool.{Bool, true, false}
+use mathlib.Core.Bool.{true, false}
 use mathlib.Core.List.{List, [], ◌∷◌, ◌++◌, map, zip_with, append_assoc}
 use Prim.Native.Nat.{ℕ, zero, suc, ◌-◌, ◌≤◌, ◌<◌}
 use native.Mathlib.Omega.{arith}
@@ -17,13 +17,13 @@ use Rattle.spec.proofs.Status.{all-passed}
 use Rattle.spec.proofs.First.{every-index, index-every}
 use Rattle.mix.specs.Range as range
 use Rattle.mix.specs.Range.{level_in_range, pan_in_range}
-use Rattle.mix.specs.Mix.{muted, mix_in_range, mix_bytes, mix_valid, mix_of, decode_mix, encode_tests, encode_mix}
+use Rattle.mix.specs.Mix.{mix_in_range, mix_bytes, mix_valid, mix_of, decode_mix, encode_tests, encode_mix}
 use Rattle.mix.specs.Arrays.{send_tag, send_level, send_pan, send_from, sends_from, mix_from, encode_sends_tests, encode_sends}
 use Rattle.mix.specs.Arrays.{SendArrays, DecodedSends, spread_over, decode_sends_tests, decode_sends}
 use Rattle.mix.specs.Laws.{FloatsFit, MixFits, SendInRange, InRange, cut, holding, refusing}
 use Rattle.mix.specs.Laws.{kept_level, kept_pan, ArraysInRange, SendsFit, ArraysSized, given, SendsExact}
 use Rattle.mix.specs.declared.monitor.AuxSend.{AuxSend}
-use Rattle.mix.specs.declared.monitor.SendSlot.{SendSlot}
+use Rattle.mix.specs.declared.monitor.AuxSend.TheVariants.{Muted}
 use Rattle.mix.specs.declared.monitor.MixAnswer.{MixAnswer}
 use Rattle.mix.proofs.Parts.{valid-parts}
 use Rattle.mix.proofs.MixLaws.{mix-range-to, mix-range-of, decode-done, decode-refused, decode-valid, valid-decode, decode-exact, encode-exact}
@@ -48,8 +48,8 @@ from-length (t ∷ ts) (l ∷ ls) [] h k = absurd (omega (arith, k))
 from-length (t ∷ ts) (l ∷ ls) (p ∷ ps) h k = ap suc (from-length ts ls ps (omega (arith, h)) (omega (arith, k)))
 
 -- one send, as an element of the list
-abbrev pub slot_from : List ℕ → List Float → List Float → ℕ → SendSlot
-slot_from ts ls ps i = record { send = send_from (get_or ts i 0) (get_or ls i nan) (get_or ps i nan) }
+abbrev pub slot_from : List ℕ → List Float → List Float → ℕ → AuxSend
+slot_from ts ls ps i = send_from (get_or ts i 0) (get_or ls i nan) (get_or ps i nan)
 
 from_next : (i : ℕ) (ts : List ℕ) (ls ps : List Float) → i < length ts → length ls ≡ length ts → length ps ≡ length ts
     → sends_from (take (suc i) ts) (take (suc i) ls) (take (suc i) ps) ≡ sends_from (take i ts) (take i ls) (take i ps) ++ (slot_from ts ls ps i ∷ [])
@@ -58,9 +58,9 @@ from_next i (t ∷ ts) [] ps h k j = absurd (omega (arith, k))
 from_next i (t ∷ ts) (l ∷ ls) [] h k j = absurd (omega (arith, j))
 from_next zero (t ∷ ts) (l ∷ ls) (p ∷ ps) h k j = refl
 from_next (suc i) (t ∷ ts) (l ∷ ls) (p ∷ ps) h k j =
-    ap (λ (r : List SendSlot). record { send = send_from t l p } ∷ r) (from_next i ts ls ps (omega (arith, h)) (omega (arith, k)) (omega (arith, j)))
+    ap (λ (r : List AuxSend). send_from t l p ∷ r) (from_next i ts ls ps (omega (arith, h)) (omega (arith, k)) (omega (arith, j)))
 
-module _ (ts : List ℕ) (ls ps : List Float) (k : length ls ≡ length ts) (j : length ps ≡ length ts) (d : List SendSlot) (i : ℕ) where
+module _ (ts : List ℕ) (ls ps : List Float) (k : length ls ≡ length ts) (j : length ps ≡ length ts) (d : List AuxSend) (i : ℕ) where
   front_length : i ≤ length ts → length (sends_from (take i ts) (take i ls) (take i ps)) ≡ i
   front_length h =
       let a = length-take-le i ts h in
@@ -69,39 +69,39 @@ module _ (ts : List ℕ) (ls ps : List Float) (k : length ls ≡ length ts) (j :
       from-length (take i ts) (take i ls) (take i ps) (b ∙ sym a) (e ∙ sym a) ∙ a
 
   -- the next send is written
-  pub send-more : (was : List SendSlot) (x : SendSlot) → i < length ts → i < length d → x ≡ slot_from ts ls ps i
+  pub send-more : (was : List AuxSend) (x : AuxSend) → i < length ts → i < length d → x ≡ slot_from ts ls ps i
       → was ≡ sends_from (take i ts) (take i ls) (take i ps) ++ drop i d
       → set was i x ≡ sends_from (take (suc i) ts) (take (suc i) ls) (take (suc i) ps) ++ drop (suc i) d
   send-more was x h s e w =
       let front = sends_from (take i ts) (take i ls) (take i ps) in
       rw (w, from_next i ts ls ps h k j, sym e) (front-more front d x i (front_length (omega arith)) s)
 
-  pub sends-whole : (was : List SendSlot) → i ≡ length ts → d ≡ replicate 16 muted → was ≡ sends_from (take i ts) (take i ls) (take i ps) ++ drop i d
-      → was ≡ sends_from ts ls ps ++ replicate (16 - length ts) muted
+  pub sends-whole : (was : List AuxSend) → i ≡ length ts → d ≡ replicate 16 Muted → was ≡ sends_from (take i ts) (take i ls) (take i ps) ++ drop i d
+      → was ≡ sends_from ts ls ps ++ replicate (16 - length ts) Muted
   sends-whole was e n w =
       rw (w, e, n, take-length ts, take_all (length ts) ls (omega arith), take_all (length ts) ps (omega arith))
-      (ap (λ (r : List SendSlot). sends_from ts ls ps ++ r) (drop-replicate (length ts) 16 muted))
+      (ap (λ (r : List AuxSend). sends_from ts ls ps ++ r) (drop-replicate (length ts) 16 Muted))
 
 -- ---- arrays made of sends
 
-module _ {A B C : Type 0} (f : B → C) (g : A → B) where
-  map_next : (i : ℕ) (l : List A) (a : A) → i < length l → map f (map g (take (suc i) l)) ≡ map f (map g (take i l)) ++ (f (g (get_or l i a)) ∷ [])
+module _ {A C : Type 0} (f : A → C) where
+  map_next : (i : ℕ) (l : List A) (a : A) → i < length l → map f (take (suc i) l) ≡ map f (take i l) ++ (f (get_or l i a) ∷ [])
   map_next i [] a h = absurd (omega (arith, h))
   map_next zero (x ∷ l) a h = refl
-  map_next (suc i) (x ∷ l) a h = ap (λ (r : List C). f (g x) ∷ r) (map_next i l a (omega (arith, h)))
+  map_next (suc i) (x ∷ l) a h = ap (λ (r : List C). f x ∷ r) (map_next i l a (omega (arith, h)))
 
-  pub parts-length : (i : ℕ) (l : List A) → i ≤ length l → length (map f (map g (take i l))) ≡ i
-  parts-length i l h = length-map (map g (take i l)) f ∙ length-map (take i l) g ∙ length-take-le i l h
+  pub parts-length : (i : ℕ) (l : List A) → i ≤ length l → length (map f (take i l)) ≡ i
+  parts-length i l h = length-map (take i l) f ∙ length-take-le i l h
 
   -- the next send's part is written
-  pub part-more : (i : ℕ) (l : List A) (a : A) (d was : List C) (x : C) → i < length l → i < length d → x ≡ f (g (get_or l i a))
-      → was ≡ map f (map g (take i l)) ++ drop i d → set was i x ≡ map f (map g (take (suc i) l)) ++ drop (suc i) d
+  pub part-more : (i : ℕ) (l : List A) (a : A) (d was : List C) (x : C) → i < length l → i < length d → x ≡ f (get_or l i a)
+      → was ≡ map f (take i l) ++ drop i d → set was i x ≡ map f (take (suc i) l) ++ drop (suc i) d
   part-more i l a d was x h k e w =
-      rw (w, map_next i l a h, sym e) (front-more (map f (map g (take i l))) d x i (parts-length i l (omega arith)) k)
+      rw (w, map_next i l a h, sym e) (front-more (map f (take i l)) d x i (parts-length i l (omega arith)) k)
 
-  pub parts-over : (i : ℕ) (l : List A) (d was : List C) → i ≤ length l → i ≤ length d → was ≡ map f (map g (take i l)) ++ drop i d
+  pub parts-over : (i : ℕ) (l : List A) (d was : List C) → i ≤ length l → i ≤ length d → was ≡ map f (take i l) ++ drop i d
       → length was ≡ length d
-  parts-over i l d was h k w = ap length w ∙ length_front d (map f (map g (take i l))) i (parts-length i l h ∙ sym (length-take-le i d k))
+  parts-over i l d was h k w = ap length w ∙ length_front d (map f (take i l)) i (parts-length i l h ∙ sym (length-take-le i d k))
 
 -- ---- what encoding answers
 
@@ -213,27 +213,23 @@ module _ (l p : Float) where
   unfolding send_from
   send-fits t f g = split (eqb t 0) (λ e. rw e) (λ e. split (eqb t 1) (λ o. rw (e, o) f) (λ o. rw (e, o, f) g))
 
--- their list
-abbrev held : SendSlot → AuxSend
-held s = s.send
-
 -- a send, of the list and with what stands behind it
-from_at : (i : ℕ) (ts : List ℕ) (ls ps : List Float) (d : SendSlot) → i < length ts → length ls ≡ length ts → length ps ≡ length ts
-    → (get_or (sends_from ts ls ps) i d).send ≡ send_from (get_or ts i 0) (get_or ls i range.zero) (get_or ps i range.zero)
+from_at : (i : ℕ) (ts : List ℕ) (ls ps : List Float) (d : AuxSend) → i < length ts → length ls ≡ length ts → length ps ≡ length ts
+    → get_or (sends_from ts ls ps) i d ≡ send_from (get_or ts i 0) (get_or ls i range.zero) (get_or ps i range.zero)
 from_at i [] ls ps d h k j = absurd (omega (arith, h))
 from_at i (t ∷ ts) [] ps d h k j = absurd (omega (arith, k))
 from_at i (t ∷ ts) (l ∷ ls) [] d h k j = absurd (omega (arith, j))
 from_at zero (t ∷ ts) (l ∷ ls) (p ∷ ps) d h k j = refl
 from_at (suc i) (t ∷ ts) (l ∷ ls) (p ∷ ps) d h k j = from_at i ts ls ps d (omega (arith, h)) (omega (arith, k)) (omega (arith, j))
 
-send_at : (i : ℕ) (ts : List ℕ) (ls ps : List Float) (rest : List SendSlot) (d : SendSlot) → i < length ts → length ls ≡ length ts → length ps ≡ length ts
-    → (get_or (sends_from ts ls ps ++ rest) i d).send ≡ send_from (get_or ts i 0) (get_or ls i range.zero) (get_or ps i range.zero)
+send_at : (i : ℕ) (ts : List ℕ) (ls ps : List Float) (rest : List AuxSend) (d : AuxSend) → i < length ts → length ls ≡ length ts → length ps ≡ length ts
+    → get_or (sends_from ts ls ps ++ rest) i d ≡ send_from (get_or ts i 0) (get_or ls i range.zero) (get_or ps i range.zero)
 send_at i ts ls ps rest d h k j =
-    ap held (get_or-append (sends_from ts ls ps) rest d i (omega (arith, from-length ts ls ps k j))) ∙ from_at i ts ls ps d h k j
+    get_or-append (sends_from ts ls ps) rest d i (omega (arith, from-length ts ls ps k j)) ∙ from_at i ts ls ps d h k j
 
 arrays-back : (ts : List ℕ) (ls ps : List Float) → length ls ≡ length ts → length ps ≡ length ts → every (λ t. leb t 2) ts ≡ true
-    → (map send_tag (map held (sends_from ts ls ps)) ≡ ts)
-    × (map send_level (map held (sends_from ts ls ps)) ≡ zip_with kept_level ts ls) × (map send_pan (map held (sends_from ts ls ps)) ≡ zip_with kept_pan ts ps)
+    → (map send_tag (sends_from ts ls ps) ≡ ts)
+    × (map send_level (sends_from ts ls ps) ≡ zip_with kept_level ts ls) × (map send_pan (sends_from ts ls ps) ≡ zip_with kept_pan ts ps)
 unfolding zip_with
 arrays-back [] ls ps k j e = (refl, refl, refl)
 arrays-back (t ∷ ts) [] ps k j e = absurd (omega (arith, k))
@@ -244,15 +240,12 @@ arrays-back (t ∷ ts) (l ∷ ls) (p ∷ ps) k j e =
     let r = arrays-back ts ls ps (omega (arith, k)) (omega (arith, j)) b.1 in
     (rw (x.0, r.0), rw (x.1, r.1), rw (x.2, r.2))
 
-abbrev slot_fits : SendSlot → Bool
-slot_fits s = FloatsFit s.send
-
-muted-fit : (n : ℕ) → every slot_fits (replicate n muted) ≡ true
+muted-fit : (n : ℕ) → every FloatsFit (replicate n Muted) ≡ true
 muted-fit zero = refl
 muted-fit (suc n) = muted-fit n
 
 sends-fit : (ts : List ℕ) (ls ps : List Float) (n : ℕ) → every (fits binary32) ls ≡ true → every (fits binary32) ps ≡ true
-    → every slot_fits (sends_from ts ls ps ++ replicate n muted) ≡ true
+    → every FloatsFit (sends_from ts ls ps ++ replicate n Muted) ≡ true
 sends-fit [] ls ps n f g = muted-fit n
 sends-fit (t ∷ ts) [] ps n f g = muted-fit n
 sends-fit (t ∷ ts) (l ∷ ls) [] n f g = muted-fit n
@@ -275,7 +268,7 @@ module _ (session : ℕ) (ts : List ℕ) (ls ps : List Float) where
     mix_in = record {
       count = r.few;
       sends = λ i h.
-          rw (send_at i ts ls ps (replicate (16 - length ts) muted) muted h r.same_levels r.same_pans)
+          rw (send_at i ts ls ps (replicate (16 - length ts) Muted) Muted h r.same_levels r.same_pans)
           (parts_in (get_or ls i range.zero) (get_or ps i range.zero) (get_or ts i 0) (r.known i h) (r.level i h) (r.pan i h));
     }
 
@@ -284,15 +277,15 @@ module _ (session : ℕ) (ts : List ℕ) (ls ps : List Float) where
     mix-fits f = record {
       session = f.session_fits;
       count = omega (arith, r.few);
-      sends = length-append (sends_from ts ls ps) (replicate (16 - length ts) muted)
-          ∙ omega (arith, sends-long, length-replicate (16 - length ts) muted, r.few);
+      sends = length-append (sends_from ts ls ps) (replicate (16 - length ts) Muted)
+          ∙ omega (arith, sends-long, length-replicate (16 - length ts) Muted, r.few);
       floats = sends-fit ts ls ps (16 - length ts) f.levels_fit f.pans_fit;
     }
 
     arrays-given : (a : SendArrays) → spread_over (cut (mix_from session ts ls ps)) a ≡ (given session ts ls ps a).arrays
     unfolding mix_from spread_over
     arrays-given a =
-        let rest = replicate (16 - length ts) muted in
+        let rest = replicate (16 - length ts) Muted in
         let at = take_at (sends_from ts ls ps) rest (length ts) sends-long in
         let b = arrays-back ts ls ps r.same_levels r.same_pans tags-known in
         rw (at, at, b.0, b.1, b.2)
@@ -315,7 +308,7 @@ module _ (session : ℕ) (ts : List ℕ) (ls ps : List Float) where
         let known : (i : ℕ) → i < length ts → get_or ts i 0 ≤ 2 = λ i h. leb-true (get_or ts i 0) 2 (every-index (λ t. leb t 2) ts 0 tags i h) in
         let r = mix-range-to m (not-false (mix_in_range m) p.1.1.1.1.1.0) in
         let sends : (i : ℕ) → i < length ts → SendInRange (send_from (get_or ts i 0) (get_or ls i range.zero) (get_or ps i range.zero))
-        = λ i h. rw (send_at i ts ls ps (replicate (16 - length ts) muted) muted h k j) at (r.sends i h) in
+        = λ i h. rw (send_at i ts ls ps (replicate (16 - length ts) Muted) Muted h k j) at (r.sends i h) in
         record {
           same_levels = k;
           same_pans = j;
@@ -388,7 +381,7 @@ sends-exact = record {
   level = λ l p. refl;
   level_pan = λ l p. refl;
   header = λ session ts ls ps. (refl, refl);
-  sends = λ session ts ls ps i d h k l. send_at i ts ls ps (replicate (16 - length ts) muted) d l h k;
+  sends = λ session ts ls ps i d h k l. send_at i ts ls ps (replicate (16 - length ts) Muted) d l h k;
   short = encode-short;
   other_levels = levels-refused;
   other_pans = pans-refused;

@@ -13,25 +13,22 @@ use Rattle.buffers.proofs.Bytes.{drop-zeros}
 use Rattle.buffers.proofs.Split.{both}
 use Rattle.spec.specs.Status.{ok, refuse_if, first_of}
 use Rattle.store.proofs.Slices.{front-part}
-use Rattle.mix.specs.Mix.{counted, slot_in_range, slot_bytes, mix_in_range, mix_bytes, encode_tests}
+use Rattle.mix.specs.Send.{send_in_range, send_bytes}
+use Rattle.mix.specs.Mix.{counted, mix_in_range, mix_bytes, encode_tests}
 use Rattle.mix.specs.declared.monitor.MonitorMix.{MonitorMix}
 
-pub range-parts : (m : MonitorMix) → mix_in_range m ≡ true → (m.count ≤ 16) × (every slot_in_range (counted m) ≡ true)
+pub range-parts : (m : MonitorMix) → mix_in_range m ≡ true → (m.count ≤ 16) × (every send_in_range (counted m) ≡ true)
 unfolding mix_in_range
-range-parts m h = let p = both (leb m.count 16) (every slot_in_range (counted m)) h in (leb-true m.count 16 p.0, p.1)
-
-pub bytes-long : (m : MonitorMix) → length (flatten (map slot_bytes (counted m))) ≡ 9 * m.count → length (mix_bytes m) ≡ 9 + 9 * m.count
-unfolding mix_bytes
-bytes-long m h = omega (arith, h)
+range-parts m h = let p = both (leb m.count 16) (every send_in_range (counted m)) h in (leb-true m.count 16 p.0, p.1)
 
 -- the header and the sends behind it are all of the bytes
 pub bytes-filled : (m : MonitorMix) → length (mix_bytes m) ≡ 9 + 9 * m.count → (r head : List ℕ)
     → head ≡ zero_fill 153 (le_bytes 8 m.session_id ++ (m.count ∷ []))
-    → r ≡ (take 9 head ++ flatten (map slot_bytes (counted m))) ++ drop (9 + 9 * m.count) head → r ≡ zero_fill 153 (mix_bytes m)
+    → r ≡ (take 9 head ++ flatten (map send_bytes (counted m))) ++ drop (9 + 9 * m.count) head → r ≡ zero_fill 153 (mix_bytes m)
 unfolding mix_bytes
 bytes-filled m n r head h e =
     let front = le_bytes 8 m.session_id ++ (m.count ∷ []) in
-    let all = flatten (map slot_bytes (counted m)) in
+    let all = flatten (map send_bytes (counted m)) in
     let left : 144 - 9 * m.count ≡ 153 - length (mix_bytes m) = omega (arith, n) in
     let rest : drop (9 + 9 * m.count) (zero_fill 153 front) ≡ zeros (153 - length (mix_bytes m)) =
     sym (drop-drop (9 * m.count) 9 (zero_fill 153 front)) ∙ drop-zeros 144 (9 * m.count)

@@ -1,6 +1,6 @@
 -- Lists that a loop goes through: a test of every element, and what is written of each. Assumes nothing.
-use mathlib.Core.Path.{◌≡◌, sym, ap, ◌∙◌}
-use mathlib.Core.Bool.{Bool, true, false}
+use mathlib.Core.Path.{◌≡◌, refl, sym, ap, ◌∙◌}
+use mathlib.Core.Bool.{Bool, true, false, ◌&&◌}
 use mathlib.Core.List.{List, [], ◌∷◌, ◌++◌, map, flatten, append-nil, append_assoc}
 use Prim.Native.Nat.{ℕ, suc, ◌+◌, ◌<◌, ◌≤◌}
 use native.Mathlib.Omega.{arith}
@@ -8,6 +8,12 @@ use lib.ListN.{length, get_or, take, drop, drop_of_length-le}
 use lib.Seq.{drop-cons, get_or-take, length-take-le}
 use Rattle.buffers.specs.Bytes.{every, put_at}
 use Rattle.buffers.proofs.Lists.{put_next}
+use Rattle.std.specs.List.{list_all}
+
+-- an iterator's test of all elements
+pub all_every : {A : Type 0} (t : A → Bool) (l : List A) → list_all t l ≡ every t l
+all_every t [] = refl
+all_every t (x ∷ l) = ap (λ (b : Bool). t x && b) (all_every t l)
 
 module _ {A : Type 0} (t : A → Bool) (l : List A) (d : A) (i : ℕ) (h : i < length l) where
   pub every_here : t (get_or l i d) ≡ false → false ≡ every t (drop i l)

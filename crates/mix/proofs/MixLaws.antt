@@ -19,11 +19,12 @@ use Rattle.spec.specs.Shapes.{AreBytes}
 use Rattle.spec.proofs.Chunks.{wide, length-chunks, length-join, chunks-join, chunk-at, join-chunks}
 use Rattle.spec.proofs.First.{every-index, index-every}
 use Rattle.spec.proofs.Shapes.{bytes_drop, bytes-part}
-use Rattle.mix.specs.Send.{send_valid, send_of}
-use Rattle.mix.specs.Mix.{counted, slot_in_range, slot_bytes, mix_in_range, mix_bytes, session_at, count_at, sends_at, mix_valid, muted, read_sends, mix_of}
+use Rattle.mix.specs.Send.{send_in_range, send_bytes, send_valid, send_of}
+use Rattle.mix.specs.Mix.{counted, mix_in_range, mix_bytes, session_at, count_at, sends_at, mix_valid, read_sends, mix_of}
 use Rattle.mix.specs.Mix.{zero_mix, decode_mix, encode_tests, encode_mix}
 use Rattle.mix.specs.Laws.{FloatsFit, MixFits, InRange, SendFormed, WellFormed, KeptMix, cut, DecodeExact, EncodeExact, holding, refusing}
-use Rattle.mix.specs.declared.monitor.SendSlot.{SendSlot}
+use Rattle.mix.specs.declared.monitor.AuxSend.{AuxSend}
+use Rattle.mix.specs.declared.monitor.AuxSend.TheVariants.{Muted}
 use Rattle.mix.specs.declared.monitor.MonitorMix.{MonitorMix}
 use Rattle.mix.specs.declared.monitor.MixAnswer.{MixAnswer}
 use Rattle.mix.proofs.SendLaws.{send-back, send-valid-bytes, send-long, range-to, range-of}
@@ -35,26 +36,26 @@ module _ (m : MonitorMix) where
   pub mix-range-to : mix_in_range m ≡ true → InRange m
   unfolding mix_in_range
   mix-range-to e =
-      let k = both (leb m.count 16) (every slot_in_range (counted m)) e in
+      let k = both (leb m.count 16) (every send_in_range (counted m)) e in
       record {
         count = leb-true m.count 16 k.0;
         sends = λ i h. split (ltb i (length m.sends))
             (λ t.
             let l = ltb-true i (length m.sends) t in
-            let at : get_or (counted m) i muted ≡ get_or m.sends i muted = get_or-take m.count m.sends i muted h in
-            range-to (get_or m.sends i muted).send
-            (rw at at (every-index slot_in_range (counted m) muted k.1 i (simp length-take (omega arith)))))
-            (λ t. rw (get_or-eq_default m.sends muted {n = i} (ltb-false i (length m.sends) t)) tt);
+            let at : get_or (counted m) i Muted ≡ get_or m.sends i Muted = get_or-take m.count m.sends i Muted h in
+            range-to (get_or m.sends i Muted)
+            (rw at at (every-index send_in_range (counted m) Muted k.1 i (simp length-take (omega arith)))))
+            (λ t. rw (get_or-eq_default m.sends Muted {n = i} (ltb-false i (length m.sends) t)) tt);
       }
 
   pub mix-range-of : InRange m → mix_in_range m ≡ true
   unfolding mix_in_range
   mix-range-of h =
       rw (le-leb m.count 16 h.count)
-      (index-every slot_in_range (counted m) muted
+      (index-every send_in_range (counted m) Muted
       (λ i l.
       let j : i < m.count = omega (arith, length-take m.count m.sends) in
-      rw (get_or-take m.count m.sends i muted j) (range-of (get_or m.sends i muted).send (h.sends i j))))
+      rw (get_or-take m.count m.sends i Muted j) (range-of (get_or m.sends i Muted) (h.sends i j))))
 
 -- ---- from a mix to bytes and back
 
@@ -63,28 +64,22 @@ unfolding flatten
 flat-joined [] = refl
 flat-joined (s ∷ ss) = ap (λ (l : List ℕ). s ++ l) (flat-joined ss)
 
-abbrev slot_fits : SendSlot → Bool
-slot_fits s = FloatsFit s.send
-
-wide-sends : (l : List SendSlot) → every (wide 9) (map slot_bytes l) ≡ true
+wide-sends : (l : List AuxSend) → every (wide 9) (map send_bytes l) ≡ true
 wide-sends [] = refl
-wide-sends (s ∷ l) = rw (send-long s.send) (wide-sends l)
+wide-sends (s ∷ l) = rw (send-long s) (wide-sends l)
 
-valid-sends : (l : List SendSlot) → every slot_fits l ≡ true → every slot_in_range l ≡ true → every send_valid (map slot_bytes l) ≡ true
+valid-sends : (l : List AuxSend) → every FloatsFit l ≡ true → every send_in_range l ≡ true → every send_valid (map send_bytes l) ≡ true
 valid-sends [] f r = refl
 valid-sends (s ∷ l) f r =
-    let a = both (slot_fits s) (every slot_fits l) f in
-    let b = both (slot_in_range s) (every slot_in_range l) r in
-    rw (send-valid-bytes s.send a.0 b.0) (valid-sends l a.1 b.1)
+    let a = both (FloatsFit s) (every FloatsFit l) f in
+    let b = both (send_in_range s) (every send_in_range l) r in
+    rw (send-valid-bytes s a.0 b.0) (valid-sends l a.1 b.1)
 
-abbrev read_slot : List ℕ → SendSlot
-read_slot s = record { send = send_of s }
-
-sends-back : (l : List SendSlot) → every slot_fits l ≡ true → map read_slot (map slot_bytes l) ≡ l
+sends-back : (l : List AuxSend) → every FloatsFit l ≡ true → map send_of (map send_bytes l) ≡ l
 sends-back [] f = refl
 sends-back (s ∷ l) f =
-    let a = both (slot_fits s) (every slot_fits l) f in
-    λ i. record { send = send-back s.send a.0 i } ∷ sends-back l a.1 i
+    let a = both (FloatsFit s) (every FloatsFit l) f in
+    λ i. send-back s a.0 i ∷ sends-back l a.1 i
 
 every_take : {A : Type 0} (t : A → Bool) (n : ℕ) (l : List A) → every t l ≡ true → every t (take n l) ≡ true
 every_take t zero l e = refl
@@ -94,31 +89,31 @@ every_take t (suc n) (x ∷ l) e = let a = both (t x) (every t l) e in rw a.0 (e
 counted-long : (m : MonitorMix) → length m.sends ≡ 16 → m.count ≤ 16 → length (counted m) ≡ m.count
 counted-long m n h = length-take-le m.count m.sends (omega arith)
 
-pub sends-size : (l : List SendSlot) → length (flatten (map slot_bytes l)) ≡ 9 * length l
+pub sends-size : (l : List AuxSend) → length (flatten (map send_bytes l)) ≡ 9 * length l
 sends-size l =
-    ap length (flat-joined (map slot_bytes l))
-    ∙ length-join 9 (map slot_bytes l) (wide-sends l)
-    ∙ ap (λ (n : ℕ). n * 9) (length-map l slot_bytes)
+    ap length (flat-joined (map send_bytes l))
+    ∙ length-join 9 (map send_bytes l) (wide-sends l)
+    ∙ ap (λ (n : ℕ). n * 9) (length-map l send_bytes)
     ∙ mul_comm (length l) 9
 
-sends-cut : (l : List SendSlot) (n : ℕ) → length l ≡ n → chunks 9 n (flatten (map slot_bytes l)) ≡ map slot_bytes l
+sends-cut : (l : List AuxSend) (n : ℕ) → length l ≡ n → chunks 9 n (flatten (map send_bytes l)) ≡ map send_bytes l
 sends-cut l n e =
-    (λ i. chunks 9 (sym e i) (flat-joined (map slot_bytes l) i))
-    ∙ ap (λ (k : ℕ). chunks 9 k (join_slots (map slot_bytes l))) (sym (length-map l slot_bytes))
-    ∙ chunks-join 9 (map slot_bytes l) (wide-sends l)
+    (λ i. chunks 9 (sym e i) (flat-joined (map send_bytes l) i))
+    ∙ ap (λ (k : ℕ). chunks 9 k (join_slots (map send_bytes l))) (sym (length-map l send_bytes))
+    ∙ chunks-join 9 (map send_bytes l) (wide-sends l)
 
 pub bytes-size : (m : MonitorMix) → length m.sends ≡ 16 → m.count ≤ 16 → length (mix_bytes m) ≡ 9 + 9 * m.count
 unfolding mix_bytes
 bytes-size m n h = omega (arith, sends-size (counted m), counted-long m n h)
 
 module _ (m : MonitorMix) (f : MixFits m) (r : InRange m) where
-  fit : every slot_fits (counted m) ≡ true
-  fit = every_take slot_fits m.count m.sends f.floats
+  fit : every FloatsFit (counted m) ≡ true
+  fit = every_take FloatsFit m.count m.sends f.floats
 
   long : length (counted m) ≡ m.count
   long = counted-long m f.sends r.count
 
-  written-sends : sends_at m.count (mix_bytes m) ≡ map slot_bytes (counted m)
+  written-sends : sends_at m.count (mix_bytes m) ≡ map send_bytes (counted m)
   unfolding mix_bytes
   written-sends = sends-cut (counted m) m.count long
 
@@ -134,7 +129,7 @@ module _ (m : MonitorMix) (f : MixFits m) (r : InRange m) where
   unfolding mix_valid
   written-valid =
       let n = bytes-size m f.sends r.count in
-      let in_range = both (leb m.count 16) (every slot_in_range (counted m)) (unfold mix_in_range in mix-range-of m r) in
+      let in_range = both (leb m.count 16) (every send_in_range (counted m)) (unfold mix_in_range in mix-range-of m r) in
       rw (
         written_count,
         le-leb 9 (length (mix_bytes m)) (omega arith),
@@ -147,7 +142,7 @@ module _ (m : MonitorMix) (f : MixFits m) (r : InRange m) where
   pub written_read : mix_of (mix_bytes m) ≡ cut m
   unfolding mix_of read_sends
   written_read =
-      let sends : (c : ℕ) → c ≡ m.count → read_sends c (mix_bytes m) ≡ counted m ++ replicate (16 - m.count) muted
+      let sends : (c : ℕ) → c ≡ m.count → read_sends c (mix_bytes m) ≡ counted m ++ replicate (16 - m.count) Muted
       = λ c e. rw (e, written-sends, sends-back (counted m) fit) in
       λ i. record { session_id = written-session i; count = written_count i; sends = sends (count_at (mix_bytes m)) written_count i }
 
@@ -158,7 +153,7 @@ abbrev Formed : List (List ℕ) → Type 0
 Formed [] = Unit {0}
 Formed (s ∷ ss) = (length s ≡ 9) × AreBytes s × SendFormed s × Formed ss
 
-parts-read : (ss : List (List ℕ)) → Formed ss → map slot_bytes (map read_slot ss) ≡ ss
+parts-read : (ss : List (List ℕ)) → Formed ss → map send_bytes (map send_of ss) ≡ ss
 parts-read [] h = refl
 parts-read (s ∷ ss) h = λ i. bytes_back s h.0 h.1 h.2 i ∷ parts-read ss h.3 i
 
@@ -166,11 +161,11 @@ parts-valid : (ss : List (List ℕ)) → Formed ss → every send_valid ss ≡ t
 parts-valid [] h = refl
 parts-valid (s ∷ ss) h = rw (formed-valid s h.0 h.1 h.2) (parts-valid ss h.3)
 
-parts_in-range : (ss : List (List ℕ)) → Formed ss → every slot_in_range (map read_slot ss) ≡ true
+parts_in-range : (ss : List (List ℕ)) → Formed ss → every send_in_range (map send_of ss) ≡ true
 parts_in-range [] h = refl
 parts_in-range (s ∷ ss) h = rw (read_in_range s h.0 h.1 h.2) (parts_in-range ss h.3)
 
-parts-fit : (ss : List (List ℕ)) (k : ℕ) → every slot_fits (map read_slot ss ++ replicate k muted) ≡ true
+parts-fit : (ss : List (List ℕ)) (k : ℕ) → every FloatsFit (map send_of ss ++ replicate k Muted) ≡ true
 parts-fit [] zero = refl
 parts-fit [] (suc k) = parts-fit [] k
 parts-fit (s ∷ ss) k = rw (floats-fit s) (parts-fit ss k)
@@ -229,12 +224,12 @@ module _ (b : List ℕ) (a : AreBytes b) where
         )
         (parts-valid (parts_of b) parts)
 
-    read-long : length (map read_slot (parts_of b)) ≡ count_at b
-    read-long = length-map (parts_of b) read_slot ∙ length-chunks 9 (count_at b) (drop 9 b)
+    read-long : length (map send_of (parts_of b)) ≡ count_at b
+    read-long = length-map (parts_of b) send_of ∙ length-chunks 9 (count_at b) (drop 9 b)
 
-    read-counted : counted (mix_of b) ≡ map read_slot (parts_of b)
+    read-counted : counted (mix_of b) ≡ map send_of (parts_of b)
     unfolding mix_of read_sends
-    read-counted = take_at (map read_slot (parts_of b)) (replicate (16 - count_at b) muted) (count_at b) read-long
+    read-counted = take_at (map send_of (parts_of b)) (replicate (16 - count_at b) Muted) (count_at b) read-long
 
     pub read_in : InRange (mix_of b)
     read_in =
@@ -247,8 +242,8 @@ module _ (b : List ℕ) (a : AreBytes b) where
       session = number_small 8 0 b a;
       count = a 8;
       sends =
-          length-append (map read_slot (parts_of b)) (replicate (16 - count_at b) muted)
-          ∙ omega (arith, read-long, length-replicate (16 - count_at b) muted, w.count_small);
+          length-append (map send_of (parts_of b)) (replicate (16 - count_at b) Muted)
+          ∙ omega (arith, read-long, length-replicate (16 - count_at b) Muted, w.count_small);
       floats = parts-fit (parts_of b) (16 - count_at b);
     }
 
@@ -265,7 +260,7 @@ module _ (b : List ℕ) (a : AreBytes b) where
     pub written_back : mix_bytes (mix_of b) ≡ b
     unfolding mix_bytes mix_of
     written_back =
-        ap (λ (l : List SendSlot). le_bytes 8 (session_at b) ++ (count_at b ∷ flatten (map slot_bytes l))) read-counted
+        ap (λ (l : List AuxSend). le_bytes 8 (session_at b) ++ (count_at b ∷ flatten (map send_bytes l))) read-counted
         ∙ ap (λ (l : List (List ℕ)). le_bytes 8 (session_at b) ++ (count_at b ∷ flatten l)) (parts-read (parts_of b) parts)
         ∙ ap (λ (l : List ℕ). le_bytes 8 (session_at b) ++ (count_at b ∷ l)) sends-joined
         ∙ sym header

@@ -15,8 +15,9 @@ use Rattle.buffers.proofs.Split.{both}
 use Rattle.spec.specs.Slots.{chunks}
 use Rattle.spec.proofs.Chunks.{length-chunks, chunk-at}
 use Rattle.mix.specs.Send.{send_valid, send_of}
-use Rattle.mix.specs.Mix.{count_at, sends_at, mix_valid, muted, read_sends}
-use Rattle.mix.specs.declared.monitor.SendSlot.{SendSlot}
+use Rattle.mix.specs.Mix.{count_at, sends_at, mix_valid, read_sends}
+use Rattle.mix.specs.declared.monitor.AuxSend.{AuxSend}
+use Rattle.mix.specs.declared.monitor.AuxSend.TheVariants.{Muted}
 
 -- as the code has them: from `at` up to `at + 9`
 abbrev pub taken : List ℕ → ℕ → List ℕ
@@ -44,24 +45,21 @@ chunks-next w (suc k) l =
     ap (λ (m : List (List ℕ)). take w l ∷ m) (chunks-next w k (drop w l)
     ∙ ap (λ (x : List ℕ). chunks w k (drop w l) ++ (take w x ∷ [])) (drop-drop (w * k) w l ∙ ap (λ (n : ℕ). drop n l) e))
 
-abbrev read_slot : List ℕ → SendSlot
-read_slot s = record { send = send_of s }
-
-pub read_next : (b : List ℕ) (i : ℕ) → i < 16 → set (read_sends i b) i (record { send = send_of (taken b i) }) ≡ read_sends (i + 1) b
+pub read_next : (b : List ℕ) (i : ℕ) → i < 16 → set (read_sends i b) i (send_of (taken b i)) ≡ read_sends (i + 1) b
 unfolding read_sends
 read_next b i h =
-    let p = map read_slot (sends_at i b) in
-    let rest = replicate (16 - suc i) muted in
+    let p = map send_of (sends_at i b) in
+    let rest = replicate (16 - suc i) Muted in
     let x = take 9 (drop (9 * i) (drop 9 b)) in
     let left : 16 - i ≡ suc (16 - suc i) = omega (arith, h) in
-    let size = length-map (sends_at i b) read_slot ∙ length-chunks 9 i (drop 9 b) in
+    let size = length-map (sends_at i b) send_of ∙ length-chunks 9 i (drop 9 b) in
     let part : taken b i ≡ x = ap (λ (w : ℕ). take w (drop (9 + 9 * i) b)) (width b i i) ∙ ap (take 9) (sym (drop-drop (9 * i) 9 b)) in
-    ap (λ (n : ℕ). set (p ++ replicate n muted) i (read_slot (taken b i))) left
-    ∙ set_at p muted rest (read_slot (taken b i)) i size
-    ∙ ap (λ (y : List ℕ). p ++ (read_slot y ∷ rest)) part
-    ∙ sym (append_assoc p (read_slot x ∷ []) rest)
-    ∙ ap (λ (l : List SendSlot). l ++ rest) (sym (ap (map read_slot) (chunks-next 9 i (drop 9 b)) ∙ map-append read_slot (sends_at i b) (x ∷ [])))
-    ∙ ap (λ (n : ℕ). map read_slot (sends_at n b) ++ replicate (16 - n) muted) (sym (add-one i))
+    ap (λ (n : ℕ). set (p ++ replicate n Muted) i (send_of (taken b i))) left
+    ∙ set_at p Muted rest (send_of (taken b i)) i size
+    ∙ ap (λ (y : List ℕ). p ++ (send_of y ∷ rest)) part
+    ∙ sym (append_assoc p (send_of x ∷ []) rest)
+    ∙ ap (λ (l : List AuxSend). l ++ rest) (sym (ap (map send_of) (chunks-next 9 i (drop 9 b)) ∙ map-append send_of (sends_at i b) (x ∷ [])))
+    ∙ ap (λ (n : ℕ). map send_of (sends_at n b) ++ replicate (16 - n) Muted) (sym (add-one i))
 
 -- what a valid mix's bytes are
 pub record ValidParts (b : List ℕ) : Type 0 where

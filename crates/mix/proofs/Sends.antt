@@ -1,5 +1,5 @@
 -- What the code tests of nine bytes, and what it then knows of them. Assumes nothing.
-use mathlib.Core.Path.{◌≡◌, sym, ap, ◌∙◌}
+use mathlib.Core.Path.{◌≡◌, ap, ◌∙◌}
 use mathlib.Core.Logic.{◌≢◌}
 use mathlib.Core.Bool.{Bool, true, false, not}
 use mathlib.Core.List.{List}
@@ -24,16 +24,13 @@ pub pan-read : (b : List ℕ) (x : Bool) (n : ℕ) → n ≡ u32_at b 5 → x �
 pan-read b x n e h = h ∙ ap (λ (k : ℕ). pan_in_range (of_bits binary32 k)) e
 
 module _ (b : List ℕ) where
-  rest : length b ≡ 9 → (a : ℕ) → take (9 - a) (drop a b) ≡ drop a b
-  rest n a = ap (λ (k : ℕ). take (k - a) (drop a b)) (sym n) ∙ rest_part b a
-
-  pub valid-muted : length b ≡ 9 → tag_at b ≡ 0 → (z : Bool) → z ≡ all_zero (take 8 (drop 1 b)) → z ≡ send_valid b
+  pub valid-muted : tag_at b ≡ 0 → (z : Bool) → z ≡ all_zero (take (length b - 1) (drop 1 b)) → z ≡ send_valid b
   unfolding send_valid
-  valid-muted n t z h = rw t (h ∙ ap all_zero (rest n 1))
+  valid-muted t z h = rw t (h ∙ ap all_zero (rest_part b 1))
 
-  pub valid-level : length b ≡ 9 → tag_at b ≡ 1 → level_in_range (level_at b) ≡ true → (z : Bool) → z ≡ all_zero (take 4 (drop 5 b)) → z ≡ send_valid b
+  pub valid-level : tag_at b ≡ 1 → level_in_range (level_at b) ≡ true → (z : Bool) → z ≡ all_zero (take (length b - 5) (drop 5 b)) → z ≡ send_valid b
   unfolding send_valid
-  valid-level n t l z h = rw (t, l) (h ∙ ap all_zero (rest n 5))
+  valid-level t l z h = rw (t, l) (h ∙ ap all_zero (rest_part b 5))
 
   pub bad-level : tag_at b ≡ 1 → level_in_range (level_at b) ≡ false → false ≡ send_valid b
   unfolding send_valid

@@ -8,10 +8,9 @@ use Rattle.std.specs.Prelude.{cond, not, List, [], ◌∷◌, ◌++◌, map, ℕ
 use Rattle.buffers.specs.Bytes.{every}
 use Rattle.spec.specs.Status.{Test, ◌when◌, first_of, on_ok, Answer, buffer_answer}
 use Rattle.mix.specs.Range.{zero}
-use Rattle.mix.specs.Mix.{counted, mix_in_range, mix_bytes, session_at, count_at, mix_valid, mix_of, muted, mix_buf_sized}
+use Rattle.mix.specs.Mix.{counted, mix_in_range, mix_bytes, session_at, count_at, mix_valid, mix_of, mix_buf_sized}
 use Rattle.mix.specs.declared.monitor.AuxSend.{AuxSend}
 use Rattle.mix.specs.declared.monitor.AuxSend.TheVariants.{Muted, Level, LevelPan}
-use Rattle.mix.specs.declared.monitor.SendSlot.{SendSlot}
 use Rattle.mix.specs.declared.monitor.MonitorMix.{MonitorMix}
 
 -- the number of each case; the numbers that it holds, and +0 for those that it does not
@@ -34,15 +33,15 @@ send_pan (LevelPan level pan) = pan
 unfoldable pub send_from : ℕ → Float → Float → AuxSend
 send_from tag level pan = cond (eqb tag 0) Muted (cond (eqb tag 1) (Level level) (LevelPan level pan))
 
-abbrev pub sends_from : List ℕ → List Float → List Float → List SendSlot
+abbrev pub sends_from : List ℕ → List Float → List Float → List AuxSend
 sends_from [] levels pans = []
 sends_from (t ∷ tags) [] pans = []
 sends_from (t ∷ tags) (l ∷ levels) [] = []
-sends_from (t ∷ tags) (l ∷ levels) (p ∷ pans) = record { send = send_from t l p } ∷ sends_from tags levels pans
+sends_from (t ∷ tags) (l ∷ levels) (p ∷ pans) = send_from t l p ∷ sends_from tags levels pans
 
 unfoldable pub mix_from : ℕ → List ℕ → List Float → List Float → MonitorMix
 mix_from session tags levels pans =
-    record { session_id = session; count = length tags; sends = sends_from tags levels pans ++ replicate (16 - length tags) muted }
+    record { session_id = session; count = length tags; sends = sends_from tags levels pans ++ replicate (16 - length tags) Muted }
 
 unfoldable pub encode_sends_tests : MonitorMix → List ℕ → List Float → List Float → List ℕ → List Test
 encode_sends_tests m tags levels pans mix_buf =
@@ -80,15 +79,12 @@ decode_sends_tests b a =
     ∷ (20 when not (mix_valid b))
     ∷ []
 
-abbrev pub sends_of : MonitorMix → List AuxSend
-sends_of m = map (λ (s : SendSlot). s.send) (counted m)
-
 -- the sends' parts at the front, the rest as before
 unfoldable pub spread_over : MonitorMix → SendArrays → SendArrays
 spread_over m a = record {
-  tags = map send_tag (sends_of m) ++ drop m.count a.tags;
-  levels = map send_level (sends_of m) ++ drop m.count a.levels;
-  pans = map send_pan (sends_of m) ++ drop m.count a.pans;
+  tags = map send_tag (counted m) ++ drop m.count a.tags;
+  levels = map send_level (counted m) ++ drop m.count a.levels;
+  pans = map send_pan (counted m) ++ drop m.count a.pans;
 }
 
 unfoldable pub decode_sends : List ℕ → SendArrays → DecodedSends

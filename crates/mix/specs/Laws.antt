@@ -28,7 +28,6 @@ use Rattle.mix.specs.Calls.{store_mix, store_encoded_mix, find_encoded_mix, find
 use Rattle.mix.specs.Arrays.{send_from, mix_from, encode_sends, SendArrays, DecodedSends, decode_sends}
 use Rattle.mix.specs.declared.monitor.AuxSend.{AuxSend}
 use Rattle.mix.specs.declared.monitor.AuxSend.TheVariants.{Muted, Level, LevelPan}
-use Rattle.mix.specs.declared.monitor.SendSlot.{SendSlot}
 use Rattle.mix.specs.declared.monitor.MonitorMix.{MonitorMix}
 use Rattle.mix.specs.declared.monitor.MixAnswer.{MixAnswer}
 
@@ -68,18 +67,18 @@ pub record SendLayout : Type 0 where
   pub one : send_bytes (LevelPan (fin false 3 (negsuc 1)) (fin true 0 (pos 0))) ≡ 2 ∷ 0x00 ∷ 0x00 ∷ 0x40 ∷ 0x3f ∷ 0x00 ∷ 0x00 ∷ 0x00 ∷ 0x80 ∷ []
 
 -- the sends of a mix, as a list
-abbrev pub slots_of : List AuxSend → List SendSlot
-slots_of sends = map (λ x. record { send = x }) sends ++ replicate (16 - length sends) (record { send = Muted })
+abbrev pub all_sends : List AuxSend → List AuxSend
+all_sends sends = sends ++ replicate (16 - length sends) Muted
 
 pub record MixLayout : Type 0 where
   -- sends behind the count are not written
-  pub bytes : (session : ℕ) (sends : List AuxSend) (rest : List SendSlot)
-      → mix_bytes (record { session_id = session; count = length sends; sends = map (λ x. record { send = x }) sends ++ rest })
+  pub bytes : (session : ℕ) (sends : List AuxSend) (rest : List AuxSend)
+      → mix_bytes (record { session_id = session; count = length sends; sends = sends ++ rest })
       ≡ le_bytes 8 session ++ (length sends ∷ flatten (map send_bytes sends))
   pub one : mix_bytes (record {
     session_id = 0x0807060504030201;
     count = 2;
-    sends = slots_of (Muted ∷ Level (fin false 1 (pos 2)) ∷ LevelPan (fin false 1 (pos 0)) (fin false 1 (pos 0)) ∷ []);
+    sends = all_sends (Muted ∷ Level (fin false 1 (pos 2)) ∷ LevelPan (fin false 1 (pos 0)) (fin false 1 (pos 0)) ∷ []);
   })
       ≡ 1 ∷ 2 ∷ 3 ∷ 4 ∷ 5 ∷ 6 ∷ 7 ∷ 8 ∷ 2 ∷ 0 ∷ 0 ∷ 0 ∷ 0 ∷ 0 ∷ 0 ∷ 0 ∷ 0 ∷ 0 ∷ 1 ∷ 0x00 ∷ 0x00 ∷ 0x80 ∷ 0x40 ∷ 0 ∷ 0 ∷ 0 ∷ 0 ∷ []
 
@@ -95,7 +94,7 @@ pub record MixFits (m : MonitorMix) : Type 0 where
   pub session : m.session_id < 2 ^ 64
   pub count : m.count < 256
   pub sends : length m.sends ≡ 16
-  pub floats : every (λ s. FloatsFit s.send) m.sends ≡ true
+  pub floats : every FloatsFit m.sends ≡ true
 
 abbrev pub SendInRange : AuxSend → Type 0
 SendInRange Muted = Unit {0}
@@ -105,7 +104,7 @@ SendInRange (LevelPan l p) = (level_in_range l ≡ true) × (pan_in_range p ≡ 
 -- at most 16 sends, and each of these in range; the others are not looked at
 pub record InRange (m : MonitorMix) : Type 0 where
   pub count : m.count ≤ 16
-  pub sends : (i : ℕ) → i < m.count → SendInRange (get_or m.sends i (record { send = Muted })).send
+  pub sends : (i : ℕ) → i < m.count → SendInRange (get_or m.sends i Muted)
 
 abbrev pub Zeros : ℕ → ℕ → List ℕ → Type 0
 Zeros from k b = take k (drop from b) ≡ replicate k 0
@@ -131,11 +130,11 @@ pub record KeptMix (b : List ℕ) : Type 0 where
   pub bytes : b ≡ mix_bytes mix
 
 abbrev pub no_mix : MonitorMix
-no_mix = record { session_id = 0; count = 0; sends = replicate 16 (record { send = Muted }) }
+no_mix = record { session_id = 0; count = 0; sends = replicate 16 Muted }
 
 -- sends beyond the count aside
 abbrev pub cut : MonitorMix → MonitorMix
-cut m = record { session_id = m.session_id; count = m.count; sends = take m.count m.sends ++ replicate (16 - m.count) (record { send = Muted }) }
+cut m = record { session_id = m.session_id; count = m.count; sends = take m.count m.sends ++ replicate (16 - m.count) Muted }
 
 pub record DecodeExact : Type 0 where
   -- bytes are accepted exactly where they are those of a mix in range, and that is where they keep the rules
@@ -348,9 +347,9 @@ pub record SendsExact : Type 0 where
   pub level_pan : (l p : Float) → send_from 2 l p ≡ LevelPan l p
   pub header : (session : ℕ) (tags : List ℕ) (levels pans : List Float)
       → let m = mix_from session tags levels pans in (m.session_id ≡ session) × (m.count ≡ length tags)
-  pub sends : (session : ℕ) (tags : List ℕ) (levels pans : List Float) (i : ℕ) (d : SendSlot)
+  pub sends : (session : ℕ) (tags : List ℕ) (levels pans : List Float) (i : ℕ) (d : AuxSend)
       → length levels ≡ length tags → length pans ≡ length tags → i < length tags
-      → (get_or (mix_from session tags levels pans).sends i d).send ≡ send_from (get_or tags i 0) (get_or levels i zero) (get_or pans i zero)
+      → get_or (mix_from session tags levels pans).sends i d ≡ send_from (get_or tags i 0) (get_or levels i zero) (get_or pans i zero)
   -- arrays are encoded exactly where they lie in range, as the mix that they are
   pub condition : (session : ℕ) (tags : List ℕ) (levels pans : List Float) (buf : List ℕ) → 153 ≤ length buf
       → ((encode_sends session tags levels pans buf).status ≡ 0) ↔ ArraysInRange tags levels pans

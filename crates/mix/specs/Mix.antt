@@ -9,26 +9,20 @@ use Rattle.buffers.specs.Bytes.{every, le_bytes, le_at}
 use Rattle.spec.specs.Slots.{chunks}
 use Rattle.spec.specs.Status.{ok, Test, ◌when◌, first_of, Answer, buffer_answer}
 use Rattle.mix.specs.Send.{send_in_range, send_bytes, send_valid, send_of}
+use Rattle.mix.specs.declared.monitor.AuxSend.{AuxSend}
 use Rattle.mix.specs.declared.monitor.AuxSend.TheVariants.{Muted}
-use Rattle.mix.specs.declared.monitor.SendSlot.{SendSlot}
 use Rattle.mix.specs.declared.monitor.MonitorMix.{MonitorMix}
 use Rattle.mix.specs.declared.monitor.MixAnswer.{MixAnswer}
 
 -- the sends that count
-abbrev pub counted : MonitorMix → List SendSlot
+abbrev pub counted : MonitorMix → List AuxSend
 counted m = take m.count m.sends
 
-abbrev pub slot_in_range : SendSlot → Bool
-slot_in_range s = send_in_range s.send
-
-abbrev pub slot_bytes : SendSlot → List ℕ
-slot_bytes s = send_bytes s.send
-
 unfoldable pub mix_in_range : MonitorMix → Bool
-mix_in_range m = leb m.count 16 && every slot_in_range (counted m)
+mix_in_range m = leb m.count 16 && every send_in_range (counted m)
 
 unfoldable pub mix_bytes : MonitorMix → List ℕ
-mix_bytes m = le_bytes 8 m.session_id ++ (m.count ∷ flatten (map slot_bytes (counted m)))
+mix_bytes m = le_bytes 8 m.session_id ++ (m.count ∷ flatten (map send_bytes (counted m)))
 
 abbrev pub session_at : List ℕ → ℕ
 session_at b = le_at 8 b 0
@@ -44,19 +38,16 @@ sends_at count b = chunks 9 count (drop 9 b)
 unfoldable pub mix_valid : List ℕ → Bool
 mix_valid b = leb 9 (length b) && (leb (count_at b) 16 && (eqb (length b) (9 + 9 * count_at b) && every send_valid (sends_at (count_at b) b)))
 
-abbrev pub muted : SendSlot
-muted = record { send = Muted }
-
 -- sixteen, of which those that are not there are muted
-unfoldable pub read_sends : ℕ → List ℕ → List SendSlot
-read_sends count b = map (λ s. record { send = send_of s }) (sends_at count b) ++ replicate (16 - count) muted
+unfoldable pub read_sends : ℕ → List ℕ → List AuxSend
+read_sends count b = map send_of (sends_at count b) ++ replicate (16 - count) Muted
 
 unfoldable pub mix_of : List ℕ → MonitorMix
 mix_of b = record { session_id = session_at b; count = count_at b; sends = read_sends (count_at b) b }
 
 -- a refusal gives 0 for every number but its status, and no send
 abbrev pub zero_mix : MonitorMix
-zero_mix = record { session_id = 0; count = 0; sends = replicate 16 muted }
+zero_mix = record { session_id = 0; count = 0; sends = replicate 16 Muted }
 
 unfoldable pub decode_mix : List ℕ → MixAnswer
 decode_mix b = cond (mix_valid b) (record { status = ok; mix = mix_of b }) (record { status = 20; mix = zero_mix })

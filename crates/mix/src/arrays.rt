@@ -1,49 +1,38 @@
 // A mix as three arrays, for callers that have no enum: each send's tag, level and pan.
 ghost use Rattle.std.specs.Prelude.{◌≡◌, true, [], ◌∷◌, ◌++◌, ◌-◌, ◌≤◌, leb, length, replicate};
 ghost use Rattle.buffers.specs.Bytes.{every};
-ghost use Rattle.mix.specs.Mix.{muted};
+ghost use Rattle.mix.specs.declared.monitor.AuxSend.TheVariants.{Muted};
 ghost use Rattle.mix.specs.Arrays.{send_from, sends_from, send_tag, send_level, send_pan, encode_sends, spread_over, decode_sends};
 
-use crate::monitor::{AuxSend, MonitorMix, SendSlot};
+use crate::monitor::{AuxSend, MonitorMix};
 use crate::{codec, monitor, send};
 use store::answers::Got;
 use store::status;
 
+#[tactic(auto, unfolding(crate::specs::Arrays::send_from))]
 fn send_from(tag: u8, level: f32, pan: f32) -> AuxSend
     ensures { result ≡ send_from tag level pan }
 {
-    if tag == send::TAG_MUTED {
-        return AuxSend::Muted;
+    match tag {
+        send::TAG_MUTED => AuxSend::Muted,
+        send::TAG_LEVEL => AuxSend::Level(level),
+        _ => AuxSend::LevelPan(level, pan),
     }
-    if tag == send::TAG_LEVEL {
-        return AuxSend::Level(level);
-    }
-    AuxSend::LevelPan(level, pan)
 }
 
 fn tags_valid(tags: &[u8]) -> bool
     ensures { result ≡ every (λ t. leb t 2) tags.now }
 {
-    let mut i = 0;
-    while i < tags.len() {
-        if send::TAG_LEVEL_PAN < tags[i] {
-            return false;
-        }
-        i += 1;
-    }
-    true
+    tags.iter().all(|tag| *tag <= send::TAG_LEVEL_PAN)
 }
 
-fn sends_from(tags: &[u8], levels: &[f32], pans: &[f32]) -> [SendSlot; 16]
+fn sends_from(tags: &[u8], levels: &[f32], pans: &[f32]) -> [AuxSend; 16]
     requires { (length tags.now ≤ 16) × (length levels.now ≡ length tags.now) × (length pans.now ≡ length tags.now) }
-    ensures { result ≡ sends_from tags.now levels.now pans.now ++ replicate (16 - length tags.now) muted }
+    ensures { result ≡ sends_from tags.now levels.now pans.now ++ replicate (16 - length tags.now) Muted }
 {
-    let mut sends = codec::no_sends();
-    let mut i = 0;
-    while i < tags.len() {
-        let send = send_from(tags[i], levels[i], pans[i]);
-        sends[i] = SendSlot { send };
-        i += 1;
+    let mut sends = [AuxSend::Muted; monitor::MAX_SENDS];
+    for (i, tag) in tags.iter().enumerate() {
+        sends[i] = send_from(*tag, levels[i], pans[i]);
     }
     sends
 }
@@ -116,16 +105,10 @@ fn spread(mix: MonitorMix, tags: &mut [u8], levels: &mut [f32], pans: &mut [f32]
     requires { (mix.count ≤ 16) × (16 ≤ length tags.old) × (16 ≤ length levels.old) × (16 ≤ length pans.old) }
     ensures { record { tags = tags.new; levels = levels.new; pans = pans.new } ≡ spread_over mix (record { tags = tags.old; levels = levels.old; pans = pans.old }) }
 {
-    let sends = mix.sends;
-    let count = mix.count as usize;
-    let mut i = 0;
-    while i < count {
-        let slot = sends[i];
-        let send = slot.send;
-        tags[i] = send_tag(send);
-        levels[i] = send_level(send);
-        pans[i] = send_pan(send);
-        i += 1;
+    for (i, send) in mix.sends[..mix.count as usize].iter().enumerate() {
+        tags[i] = send_tag(*send);
+        levels[i] = send_level(*send);
+        pans[i] = send_pan(*send);
     }
 }
 

@@ -2,41 +2,26 @@
 ghost use Rattle.std.specs.Prelude.{◌≡◌, true, ◌+◌, ◌*◌, ◌≤◌, length, take, drop};
 ghost use mathlib.Core.List.{[], ◌∷◌, ◌++◌, map, flatten};
 ghost use Rattle.buffers.specs.Bytes.{every, le_bytes, zero_fill};
-ghost use Rattle.mix.specs.Mix.{slot_in_range, slot_bytes, mix_in_range, mix_bytes, sends_at, mix_valid, read_sends, zero_mix, decode_mix, encode_mix};
-ghost use Rattle.mix.specs.Send.{send_valid};
+ghost use Rattle.mix.specs.Mix.{mix_in_range, mix_bytes, sends_at, mix_valid, read_sends, zero_mix, decode_mix, encode_mix};
+ghost use Rattle.mix.specs.Send.{send_in_range, send_bytes, send_valid};
 
-use crate::monitor::{AuxSend, MixAnswer, MonitorMix, SendSlot};
+use crate::monitor::{AuxSend, MixAnswer, MonitorMix};
 use crate::{monitor, send, session};
 use buffers::parts;
 use store::answers::Got;
 use store::status;
 
-// The first `count` sends lie in range.
-fn sends_in_range(sends: [SendSlot; 16], count: usize) -> bool
-    requires { count ≤ 16 }
-    ensures { result ≡ every slot_in_range (take count sends) }
+fn sends_in_range(sends: &[AuxSend]) -> bool
+    ensures { result ≡ every send_in_range sends.now }
 {
-    let mut i = 0;
-    while i < count {
-        let slot = sends[i];
-        let send = slot.send;
-        if !send::send_in_range(send) {
-            return false;
-        }
-        i += 1;
-    }
-    true
+    sends.iter().all(|send| send::send_in_range(*send))
 }
 
 pub fn mix_in_range(mix: MonitorMix) -> bool
     ensures { result ≡ mix_in_range mix }
 {
     let count = mix.count as usize;
-    if monitor::MAX_SENDS < count {
-        return false;
-    }
-    let sends = mix.sends;
-    sends_in_range(sends, count)
+    count <= monitor::MAX_SENDS && sends_in_range(&mix.sends[..count])
 }
 
 // Session number and count, zeros behind them.
@@ -49,20 +34,15 @@ fn header_bytes(session_id: u64, count: u8) -> [u8; 153]
     b
 }
 
-// The first `count` sends, one behind the other after the header.
-fn put_sends(sends: [SendSlot; 16], count: usize, header: [u8; 153]) -> [u8; 153]
-    requires { (count ≤ 16) × (every slot_in_range (take count sends) ≡ true) }
-    ensures value { result ≡ (take 9 header ++ flatten (map slot_bytes (take count sends))) ++ drop (9 + 9 * count) header }
-    ensures sends_len { length (flatten (map slot_bytes (take count sends))) ≡ 9 * count }
+// The sends, one behind the other after the header.
+fn put_sends(sends: &[AuxSend], header: [u8; 153]) -> [u8; 153]
+    requires { (length sends.now ≤ 16) × (every send_in_range sends.now ≡ true) }
+    ensures { result ≡ (take 9 header ++ flatten (map send_bytes sends.now)) ++ drop (9 + 9 * length sends.now) header }
 {
     let mut b = header;
-    let mut i = 0;
-    while i < count {
-        let slot = sends[i];
-        let send = slot.send;
-        let bytes = send::encode_send(send);
+    for (i, send) in sends.iter().enumerate() {
+        let bytes = send::encode_send(*send);
         parts::paste(&mut b, monitor::MIX_HEADER + monitor::SEND_SIZE * i, &bytes);
-        i += 1;
     }
     b
 }
@@ -73,9 +53,8 @@ pub(crate) fn mix_bytes(mix: MonitorMix) -> [u8; 153]
     ensures value { result ≡ zero_fill 153 (mix_bytes mix) }
     ensures mix_len { length (mix_bytes mix) ≡ 9 + 9 * mix.count }
 {
-    let sends = mix.sends;
     let header = header_bytes(mix.session_id, mix.count);
-    put_sends(sends, mix.count as usize, header)
+    put_sends(&mix.sends[..mix.count as usize], header)
 }
 
 pub(crate) fn refused(status: u32) -> Got
@@ -108,14 +87,11 @@ fn sends_valid(b: &[u8], count: usize) -> bool
     requires { (length b.now ≡ 9 + 9 * count) × (count ≤ 16) }
     ensures { result ≡ every send_valid (sends_at count b.now) }
 {
-    let mut i = 0;
-    while i < count {
+    for i in 0..count {
         let at = monitor::MIX_HEADER + monitor::SEND_SIZE * i;
-        let end = at + monitor::SEND_SIZE;
-        if !send::send_valid(&b[at..end]) {
+        if !send::send_valid(&b[at..at + monitor::SEND_SIZE]) {
             return false;
         }
-        i += 1;
     }
     true
 }
@@ -127,35 +103,19 @@ pub fn mix_valid(b: &[u8]) -> bool
         return false;
     }
     let count = b[8] as usize;
-    if monitor::MAX_SENDS < count {
-        return false;
-    }
-    if b.len() != monitor::MIX_HEADER + monitor::SEND_SIZE * count {
-        return false;
-    }
-    sends_valid(b, count)
+    count <= monitor::MAX_SENDS
+        && b.len() == monitor::MIX_HEADER + monitor::SEND_SIZE * count
+        && sends_valid(b, count)
 }
 
-pub(crate) fn no_sends() -> [SendSlot; 16]
-    ensures { result ≡ zero_mix.sends }
-{
-    [SendSlot {
-        send: AuxSend::Muted,
-    }; 16]
-}
-
-fn read_sends(b: &[u8], count: usize) -> [SendSlot; 16]
+fn read_sends(b: &[u8], count: usize) -> [AuxSend; 16]
     requires { (length b.now ≡ 9 + 9 * count) × (count ≤ 16) × (every send_valid (sends_at count b.now) ≡ true) }
     ensures { result ≡ read_sends count b.now }
 {
-    let mut sends = no_sends();
-    let mut i = 0;
-    while i < count {
+    let mut sends = [AuxSend::Muted; monitor::MAX_SENDS];
+    for i in 0..count {
         let at = monitor::MIX_HEADER + monitor::SEND_SIZE * i;
-        let end = at + monitor::SEND_SIZE;
-        let send = send::decode_send(&b[at..end]);
-        sends[i] = SendSlot { send };
-        i += 1;
+        sends[i] = send::decode_send(&b[at..at + monitor::SEND_SIZE]);
     }
     sends
 }
@@ -163,13 +123,12 @@ fn read_sends(b: &[u8], count: usize) -> [SendSlot; 16]
 pub(crate) fn refused_mix(status: u32) -> MixAnswer
     ensures { result ≡ record { status = status; mix = zero_mix } }
 {
-    let sends = no_sends();
     MixAnswer {
         status,
         mix: MonitorMix {
             session_id: 0,
             count: 0,
-            sends,
+            sends: [AuxSend::Muted; monitor::MAX_SENDS],
         },
     }
 }

@@ -138,10 +138,8 @@ fn search_slots(
         matches: 0,
         at: 0,
     };
-    let mut i = 0;
-    while i < k {
+    for i in 0..k {
         s = try_slot(mix, sub, device, kv, rbp, session_id, i, s);
-        i += 1;
     }
     s
 }

@@ -8,18 +8,13 @@ pub enum AuxSend {
     LevelPan(f32, f32),
 }
 
-// The toolchain covers no struct with an array of enums, so each send has a struct around it.
-#[derive(Clone, Copy)]
-pub struct SendSlot {
-    pub send: AuxSend,
-}
-
 // The first `count` sends belong to the mix. A mix that is read has `Muted` in the others; where one is given, they are not looked at.
+// An array with a count, since there is no heap, and a mix is held by value.
 #[derive(Clone, Copy)]
 pub struct MonitorMix {
     pub session_id: u64,
     pub count: u8,
-    pub sends: [SendSlot; 16],
+    pub sends: [AuxSend; 16],
 }
 
 // A refusal has session number 0 and no sends.

@@ -7,23 +7,20 @@ ghost use Rattle.mix.specs.Range.{level_in_range, pan_in_range};
 pub fn level_in_range(level: f32) -> bool
     ensures { result ≡ level_in_range level }
 {
-    if 0.0 <= level { level <= 4.0 } else { false }
+    0.0 <= level && level <= 4.0
 }
 
 pub fn pan_in_range(pan: f32) -> bool
     ensures { result ≡ pan_in_range pan }
 {
-    if -1.0 <= pan { pan <= 1.0 } else { false }
+    -1.0 <= pan && pan <= 1.0
 }
 
 // From +0 to 4, and -0.
 pub fn level_bits_in_range(bits: u32) -> bool
     ensures { result ≡ level_in_range (of_bits binary32 bits) }
 {
-    if bits <= 0x40800000 {
-        return true;
-    }
-    bits == 0x80000000
+    bits <= 0x40800000 || bits == 0x80000000
 }
 
 // From 0 to 1, with either sign.

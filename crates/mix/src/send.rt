@@ -19,13 +19,7 @@ pub fn send_in_range(send: AuxSend) -> bool
     match send {
         AuxSend::Muted => true,
         AuxSend::Level(level) => range::level_in_range(level),
-        AuxSend::LevelPan(level, pan) => {
-            if range::level_in_range(level) {
-                range::pan_in_range(pan)
-            } else {
-                false
-            }
-        }
+        AuxSend::LevelPan(level, pan) => range::level_in_range(level) && range::pan_in_range(pan),
     }
 }
 
@@ -59,36 +53,29 @@ pub(crate) fn send_valid(b: &[u8]) -> bool
     requires { length b.now ≡ 9 }
     ensures { result ≡ send_valid b.now }
 {
-    let tag = b[0];
-    if tag == TAG_MUTED {
-        return compare::all_zero(&b[1..9]);
-    }
-    if tag == TAG_LEVEL {
-        if range::level_bits_in_range(numbers::le_at(b, 1, 4)) {
-            return compare::all_zero(&b[5..9]);
+    match b[0] {
+        TAG_MUTED => compare::all_zero(&b[1..]),
+        TAG_LEVEL => {
+            range::level_bits_in_range(numbers::le_at(b, 1, 4)) && compare::all_zero(&b[5..])
         }
-        return false;
+        TAG_LEVEL_PAN => {
+            range::level_bits_in_range(numbers::le_at(b, 1, 4))
+                && range::pan_bits_in_range(numbers::le_at(b, 5, 4))
+        }
+        _ => false,
     }
-    if tag != TAG_LEVEL_PAN {
-        return false;
-    }
-    if range::level_bits_in_range(numbers::le_at(b, 1, 4)) {
-        return range::pan_bits_in_range(numbers::le_at(b, 5, 4));
-    }
-    false
 }
 
 pub(crate) fn decode_send(b: &[u8]) -> AuxSend
     requires { (length b.now ≡ 9) × (send_valid b.now ≡ true) }
     ensures { result ≡ send_of b.now }
 {
-    let tag = b[0];
-    if tag == TAG_MUTED {
-        return AuxSend::Muted;
+    match b[0] {
+        TAG_MUTED => AuxSend::Muted,
+        TAG_LEVEL => AuxSend::Level(f32::from_bits(numbers::le_at(b, 1, 4))),
+        _ => AuxSend::LevelPan(
+            f32::from_bits(numbers::le_at(b, 1, 4)),
+            f32::from_bits(numbers::le_at(b, 5, 4)),
+        ),
     }
-    let level = f32::from_bits(numbers::le_at(b, 1, 4));
-    if tag == TAG_LEVEL {
-        return AuxSend::Level(level);
-    }
-    AuxSend::LevelPan(level, f32::from_bits(numbers::le_at(b, 5, 4)))
 }

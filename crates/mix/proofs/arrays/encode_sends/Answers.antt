@@ -5,7 +5,7 @@ use lib.ListN.{length}
 use Rattle.store.proofs.Tests.{is_false, is_true}
 use Rattle.mix.specs.Mix.{encode_mix}
 use Rattle.mix.specs.Arrays.{mix_from}
-use Rattle.mix.specs.declared.monitor.SendSlot.{SendSlot}
+use Rattle.mix.specs.declared.monitor.AuxSend.{AuxSend}
 use Rattle.mix.proofs.ArrayLaws.{encode-short, other_levels, other_pans, too_many, bad-tag, is-encode}
 use Rattle.std.proofs.Common.{not}
 use Rattle.mix.proofs.arrays.encode_sends.Goals as goal
@@ -49,5 +49,5 @@ returns c =
     let answers = is-encode a.session_id a.tags.now a.levels.now a.pans.now buf c.if-mix_buf-lt-MAX_MIX.false c.if-levels-tags.false in
     let good = is_true c.tags_valid.ensures (ap not c.if-not-tags_valid.false) in
     c.encode_mix.ensures
-    ∙ ap (λ (l : List SendSlot). encode_mix (record { session_id = a.session_id; count = n; sends = l }) buf) c.sends_from-sends.ensures
+    ∙ ap (λ (l : List AuxSend). encode_mix (record { session_id = a.session_id; count = n; sends = l }) buf) c.sends_from-sends.ensures
     ∙ sym (answers c.if-pans-tags.false c.if-tags-gt-MAX_SENDS.false good)

@@ -1,5 +1,4 @@
 -- `mix::codec::sends_valid`. The invariant: what is left decides.
-use Prim.Native.Nat.{◌-◌, ◌≤◌}
 use mathlib.Core.Path.{◌≡◌}
 use lib.ListN.{drop}
 use Rattle.buffers.specs.Bytes.{every}
@@ -8,7 +7,4 @@ use Rattle.mix.specs.Send.{send_valid}
 use Rattle.mix.proofs.codec.sends_valid.Given as goal
 
 abbrev pub invariant-loop-i : goal.invariant-loop-i
-invariant-loop-i l = (l.i ≤ l.count) × (every send_valid (drop l.i (sends_at l.count l.b)) ≡ every send_valid (sends_at l.count l.b))
-
-abbrev pub decreases-loop-i : goal.decreases-loop-i
-decreases-loop-i l = l.count - l.i
+invariant-loop-i l = every send_valid (drop l.i (sends_at l.count l.b)) ≡ every send_valid (sends_at l.count l.b)

@@ -9,9 +9,10 @@ use Rattle.mix.proofs.range.level_bits_in_range.Goals as goal
 pub returns-then-bits-le1082130432 : goal.returns-then-bits-le1082130432
 returns-then-bits-le1082130432 c =
     let n = c.args.bits in
-    sym (level-bits-is n c.ranges.bits.fits ∙ ap (λ (t : Bool). t || eqb n 0x80000000) (le-leb n 0x40800000 c.if-bits-le1082130432.true))
+    let small = le-leb n 0x40800000 c.if-bits-le1082130432.true in
+    small ∙ sym (level-bits-is n c.ranges.bits.fits ∙ ap (λ (t : Bool). t || eqb n 0x80000000) small)
 
-pub returns : goal.returns
-returns c =
+pub returns-else-bits-le1082130432 : goal.returns-else-bits-le1082130432
+returns-else-bits-le1082130432 c =
     let n = c.args.bits in
     sym (level-bits-is n c.ranges.bits.fits ∙ ap (λ (t : Bool). t || eqb n 0x80000000) (lt-leb n 0x40800000 c.if-bits-le1082130432.false))
