@@ -17,14 +17,13 @@ use Rattle.spec.proofs.Status.{all-passed}
 use Rattle.spec.proofs.First.{every-index, index-every}
 use Rattle.mix.specs.Range as range
 use Rattle.mix.specs.Range.{level_in_range, pan_in_range}
-use Rattle.mix.specs.Mix.{mix_in_range, mix_bytes, mix_valid, mix_of, decode_mix, encode_tests, encode_mix}
+use Rattle.mix.specs.Mix.{MixAnswer, mix_in_range, mix_bytes, mix_valid, mix_of, decode_mix, encode_tests, encode_mix}
 use Rattle.mix.specs.Arrays.{send_tag, send_level, send_pan, send_from, sends_from, mix_from, encode_sends_tests, encode_sends}
 use Rattle.mix.specs.Arrays.{SendArrays, DecodedSends, spread_over, decode_sends_tests, decode_sends}
 use Rattle.mix.specs.Laws.{FloatsFit, MixFits, SendInRange, InRange, cut, holding, refusing}
 use Rattle.mix.specs.Laws.{kept_level, kept_pan, ArraysInRange, SendsFit, ArraysSized, given, SendsExact}
 use Rattle.mix.specs.declared.monitor.AuxSend.{AuxSend}
 use Rattle.mix.specs.declared.monitor.AuxSend.TheVariants.{Muted}
-use Rattle.mix.specs.declared.monitor.MixAnswer.{MixAnswer}
 use Rattle.mix.proofs.Parts.{valid-parts}
 use Rattle.mix.proofs.MixLaws.{mix-range-to, mix-range-of, decode-done, decode-refused, decode-valid, valid-decode, decode-exact, encode-exact}
 

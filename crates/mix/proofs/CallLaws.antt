@@ -26,7 +26,7 @@ use Rattle.spec.proofs.Intact.{lookup-shape}
 use Rattle.spec.proofs.Status.{number, first-listed, on-refused}
 use Rattle.spec.proofs.Demand1.{buffer_well, demand1-holds}
 use Rattle.spec.proofs.Set.{round_trip, set_exact}
-use Rattle.mix.specs.Mix.{counted, mix_in_range, mix_bytes, session_at, count_at, mix_valid, mix_of, decode_mix}
+use Rattle.mix.specs.Mix.{MixAnswer, counted, mix_in_range, mix_bytes, session_at, count_at, mix_valid, mix_of, decode_mix}
 use Rattle.mix.specs.Mix.{zero_mix, mix_buf_sized, encode_tests, encode_mix}
 use Rattle.mix.specs.Calls.{mix_named, store_if_valid, store_mix, store_encoded_mix, mix_names, mix_record, mix_data, find_tests, found_data}
 use Rattle.mix.specs.Calls.{find_encoded_mix, find_mix_by_session}
@@ -34,7 +34,6 @@ use Rattle.mix.specs.Arrays.{mix_from, encode_sends_tests, encode_sends, SendArr
 use Rattle.mix.specs.Laws.{InRange, MixName, MixWell, MixCallsWell, holding, refused_with, cut, StoreMixExact}
 use Rattle.mix.specs.Laws.{MixFits, MixAt, Accepted, session_in, Findable, StoreFinds, StoreFindsEncoded}
 use Rattle.mix.specs.declared.monitor.MonitorMix.{MonitorMix}
-use Rattle.mix.specs.declared.monitor.MixAnswer.{MixAnswer}
 use Rattle.mix.proofs.Scan.{records}
 use Rattle.mix.proofs.Read.{not_decoded_lem, got-readable, data_opened}
 use Rattle.mix.proofs.MixLaws.{decode-valid, decode-done, mix-range-to, mix-range-of, valid-well, read_fits, decode-exact}

@@ -6,13 +6,12 @@ use Prim.Native.Nat.{ℕ, ◌+◌, ◌-◌, ◌*◌, ◌≤◌, ◌<◌}
 use native.Mathlib.Omega.{arith}
 use lib.Dec.{leb}
 use lib.ListN.{length, take, drop}
-use lib.Seq.{drop-drop}
+use lib.Seq.{drop-drop, take-append_seam}
 use borrow.Author.Tests.{leb-true, le-leb, lt-leb}
 use Rattle.buffers.specs.Bytes.{every, zeros, zero_fill, le_bytes}
 use Rattle.buffers.proofs.Bytes.{drop-zeros}
 use Rattle.buffers.proofs.Split.{both}
 use Rattle.spec.specs.Status.{ok, refuse_if, first_of}
-use Rattle.store.proofs.Slices.{front-part}
 use Rattle.mix.specs.Send.{send_in_range, send_bytes}
 use Rattle.mix.specs.Mix.{counted, mix_in_range, mix_bytes, encode_tests}
 use Rattle.mix.specs.declared.monitor.MonitorMix.{MonitorMix}
@@ -37,8 +36,10 @@ bytes-filled m n r head h e =
 
 -- the part of the array that the bytes are
 pub bytes-part : (m : MonitorMix) → length (mix_bytes m) ≡ 9 + 9 * m.count → (r : List ℕ) → r ≡ zero_fill 153 (mix_bytes m)
-    → take (9 + 9 * m.count - 0) (drop 0 r) ≡ mix_bytes m
-bytes-part m n r e = rw e (front-part (mix_bytes m) (zeros (153 - length (mix_bytes m))) (9 + 9 * m.count) n)
+    → take (9 + 9 * m.count) r ≡ mix_bytes m
+bytes-part m n r e =
+    ap (λ (l : List ℕ). take (9 + 9 * m.count) l) e ∙ ap (λ (k : ℕ). take k (zero_fill 153 (mix_bytes m))) (sym n)
+    ∙ take-append_seam (mix_bytes m) (zeros (153 - length (mix_bytes m)))
 
 -- the tests of an encoding
 pub short_buffer : (good : Bool) (buf : List ℕ) → length buf < 153 → first_of (encode_tests good buf) ≡ 1

@@ -21,10 +21,9 @@ use Rattle.buffers.proofs.Split.{split, clash, both, not-false-is, not_true_is}
 use Rattle.spec.proofs.Chunks.{slots_length}
 use Rattle.spec.proofs.NameLists.{in_member}
 use Rattle.spec.proofs.Status.{Passed, passed, all-passed, past, stops, by-status, on-ok}
-use Rattle.mix.specs.Mix.{session_at, mix_valid, mix_of, decode_mix, zero_mix, mix_buf_sized}
+use Rattle.mix.specs.Mix.{MixAnswer, session_at, mix_valid, mix_of, decode_mix, zero_mix, mix_buf_sized}
 use Rattle.mix.specs.Calls.{first_name, mix_names, mix_record, mix_data, holders, find_tests, found_data, find_encoded_mix, find_mix_by_session}
 use Rattle.mix.specs.Laws.{holding, refusing, MixAt, Accepted, AcceptedBelow, Holds, Findable, FindExact, FindRefusals}
-use Rattle.mix.specs.declared.monitor.MixAnswer.{MixAnswer}
 use Rattle.mix.proofs.Scan.{record_status, record-passed, records}
 use Rattle.mix.proofs.MixLaws.{decode-valid, decode-done, valid-decode}
 use Rattle.mix.proofs.Read.{session-valid, not_decoded_lem, got-readable, readable-got, data_opened}

@@ -16,11 +16,11 @@ use Rattle.spec.specs.Decisions.{key_sized}
 use Rattle.spec.specs.Calls.{store_get}
 use Rattle.spec.proofs.Status.{stops, passes, by-status, on-refused}
 use Rattle.store.specs.Parts.{area_tests}
-use Rattle.mix.specs.Mix.{mix_valid, mix_of, zero_mix, mix_buf_sized, decode_mix}
+use Rattle.mix.specs.Mix.{MixAnswer, mix_valid, mix_of, zero_mix, mix_buf_sized, decode_mix}
 use Rattle.mix.specs.Calls.{first_name, mix_names, record_tests, holders, find_tests, found_data, find_encoded_mix, find_mix_by_session}
-use Rattle.mix.specs.Search.{begun, scan, search_status}
-use Rattle.mix.specs.declared.find.Search.{Search}
-use Rattle.mix.specs.declared.monitor.MixAnswer.{MixAnswer}
+use Rattle.mix.specs.Search.{Seen, seen_on, scan, search_status}
+use Rattle.mix.specs.declared.find.Matches.{Matches}
+use Rattle.mix.specs.declared.find.Matches.TheVariants.{Zero, One}
 use Rattle.mix.proofs.Scan.{record_status, scan-status, scan-found}
 use Rattle.mix.proofs.Tried.{sane}
 use Rattle.mix.proofs.MixLaws.{decode-done}
@@ -37,8 +37,8 @@ module _ (kv rbp key : List ℕ) (session : ℕ) where
   abbrev guard : List Test
   guard = area_tests kv rbp (key_sized key)
 
-  abbrev search : Search
-  search = scan kv rbp key session 0 (slots kv_format kv) begun
+  abbrev search : Seen
+  search = scan kv rbp key session 0 (slots kv_format kv) Zero
 
   module _ (buf : List ℕ) (long : 153 ≤ length buf) where
     abbrev status : ℕ
@@ -57,28 +57,30 @@ module _ (kv rbp key : List ℕ) (session : ℕ) where
 
     module _ (g : first_of guard ≡ ok) where
       searched : status ≡ search_status search
-      searched = status_is ∙ passes guard rest refl g ∙ sym (scan-status kv rbp key session (sane kv rbp key g).kv_sized (sane kv rbp key g).kv_intact)
+      searched = status_is ∙ passes guard rest refl g ∙ sym (scan-status kv rbp key session (sane kv rbp key g).kv_intact)
 
-      pub search-decides : (s : Search) → s ≡ search → (n : ℕ) → n ≡ search_status s → status ≡ n
-      search-decides s e n h = searched ∙ sym (h ∙ ap search_status e)
+      -- a search that is refused, and one that finds none or more
+      pub search-decides : (s : Seen) → s ≡ search → status ≡ search_status s
+      search-decides s e = searched ∙ sym (ap search_status e)
 
   -- a search that ends well: the slot that it found, and the record there
-  module _ (g : first_of guard ≡ ok) (s : Search) (e : s ≡ search) (n : ℕ) (h : n ≡ search_status s) (z : n ≡ ok) where
-    done : search_status search ≡ ok
-    done = sym (h ∙ ap search_status e) ∙ z
+  module _ (g : first_of guard ≡ ok) (at : ℕ) (e : seen_on (One at) ≡ search) where
+    pub slot-found : (at < slot_count kv_format kv) × (slot_used kv_format (get_or (slots kv_format kv) at []) ≡ true)
+        × (slot_name kv_format (get_or (slots kv_format kv) at []) ≡ first_name (holders kv rbp key session))
+    slot-found = scan-found kv rbp key session (sane kv rbp key g).kv_intact at (sym e)
 
-    pub slot-found : (s.at < slot_count kv_format kv) × (slot_used kv_format (get_or (slots kv_format kv) s.at []) ≡ true)
-        × (slot_name kv_format (get_or (slots kv_format kv) s.at []) ≡ first_name (holders kv rbp key session))
-    slot-found = rw e (scan-found kv rbp key session (sane kv rbp key g).kv_sized (sane kv rbp key g).kv_intact done)
+    done : search_status search ≡ ok
+    unfolding search_status refuse_if
+    done = rw (sym e)
 
     pub record_found : record_status kv rbp key (first_name (holders kv rbp key session)) ≡ ok
-    record_found = found-accepted kv rbp key session (sym (scan-status kv rbp key session (sane kv rbp key g).kv_sized (sane kv rbp key g).kv_intact) ∙ done)
+    record_found = found-accepted kv rbp key session (sym (scan-status kv rbp key session (sane kv rbp key g).kv_intact) ∙ done)
 
-    pub given : (buf name : List ℕ) → 153 ≤ length buf → name ≡ slot_name kv_format (get_or (slots kv_format kv) s.at [])
+    pub given : (buf name : List ℕ) → 153 ≤ length buf → name ≡ slot_name kv_format (get_or (slots kv_format kv) at [])
         → (store_get kv rbp key name 0 buf).answer ≡ find_encoded_mix kv rbp key session buf
     unfolding find_encoded_mix
     given buf name long q =
-        let status-ok = search-decides buf long g s e n h ∙ z in
+        let status-ok = searched buf long g ∙ done in
         ap (λ (x : List ℕ). (store_get kv rbp key x 0 buf).answer) (q ∙ slot-found.2)
         ∙ read-into kv rbp key (first_name (holders kv rbp key session)) buf record_found long
         ∙ sym (ap (λ (k : ℕ). buffer_answer k (found_data kv rbp key session) buf) status-ok)

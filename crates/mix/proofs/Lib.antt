@@ -1,3 +1,4 @@
+pub mod Refusals
 pub mod Bits
 pub mod RangeLaws
 pub mod MixLayout

@@ -20,13 +20,12 @@ use Rattle.spec.proofs.Chunks.{wide, length-chunks, length-join, chunks-join, ch
 use Rattle.spec.proofs.First.{every-index, index-every}
 use Rattle.spec.proofs.Shapes.{bytes_drop, bytes-part}
 use Rattle.mix.specs.Send.{send_in_range, send_bytes, send_valid, send_of}
-use Rattle.mix.specs.Mix.{counted, mix_in_range, mix_bytes, session_at, count_at, sends_at, mix_valid, read_sends, mix_of}
+use Rattle.mix.specs.Mix.{MixAnswer, counted, mix_in_range, mix_bytes, session_at, count_at, sends_at, mix_valid, read_sends, mix_of}
 use Rattle.mix.specs.Mix.{zero_mix, decode_mix, encode_tests, encode_mix}
 use Rattle.mix.specs.Laws.{FloatsFit, MixFits, InRange, SendFormed, WellFormed, KeptMix, cut, DecodeExact, EncodeExact, holding, refusing}
 use Rattle.mix.specs.declared.monitor.AuxSend.{AuxSend}
 use Rattle.mix.specs.declared.monitor.AuxSend.TheVariants.{Muted}
 use Rattle.mix.specs.declared.monitor.MonitorMix.{MonitorMix}
-use Rattle.mix.specs.declared.monitor.MixAnswer.{MixAnswer}
 use Rattle.mix.proofs.SendLaws.{send-back, send-valid-bytes, send-long, range-to, range-of}
 use Rattle.mix.proofs.SendLaws.{floats-fit, valid-formed, formed-valid, read_in_range, bytes_back}
 

@@ -14,10 +14,9 @@ use Rattle.spec.specs.Demand2.{Readable, opened}
 use Rattle.buffers.proofs.Split.{split, not-false-is}
 use Rattle.spec.proofs.Get.{get_exact}
 use Rattle.spec.proofs.Whole.{count-within as get-within, get-whole, whole-given}
-use Rattle.mix.specs.Mix.{mix_valid, mix_of, decode_mix, session_at}
+use Rattle.mix.specs.Mix.{MixAnswer, mix_valid, mix_of, decode_mix, session_at}
 use Rattle.mix.specs.Calls.{mix_record, mix_data, record_tests}
 use Rattle.mix.specs.Laws.{session_in}
-use Rattle.mix.specs.declared.monitor.MixAnswer.{MixAnswer}
 use Rattle.mix.proofs.MixLaws.{decode-done, valid-decode}
 use Rattle.mix.proofs.Parts.{valid-parts}
 use Rattle.mix.proofs.Scan.{record-passed}

@@ -5,7 +5,7 @@ use mathlib.Core.Bool.{true, false, not}
 use mathlib.Core.List.{List, [], ◌∷◌}
 use Prim.Native.Nat.{ℕ, ◌≤◌, ◌<◌}
 use native.Mathlib.Omega.{arith}
-use borrow.Author.Tests.{ne_eqb, eqb-true}
+use borrow.Author.Tests.{eq-eqb, ne_eqb, eqb-true}
 use lib.ListN.{length, get_or}
 use Rattle.spec.specs.Status.{ok, refuse_if, ◌when◌, first_of, on_ok, Answer, bytes_given}
 use Rattle.spec.specs.Name.{valid_name}
@@ -20,7 +20,9 @@ use Rattle.store.specs.Parts.{area_tests, get_early}
 use Rattle.buffers.proofs.Split.{clash, not-false-is}
 use Rattle.mix.specs.Mix.{session_at, mix_valid}
 use Rattle.mix.specs.Calls.{mix_prefix, mix_record, mix_data}
-use Rattle.mix.specs.Search.{try_record}
+use Rattle.mix.specs.Search.{seen_on, one_more, advanced, try_record}
+use Rattle.mix.specs.declared.find.Matches.{Matches}
+use Rattle.mix.specs.declared.find.Matches.TheVariants.{Zero}
 use Rattle.mix.proofs.Parts.{valid-parts}
 use Rattle.mix.proofs.Read.{count-within}
 use Rattle.mix.proofs.Scan.{SlotOf, is_no_mix, a-mix, slot-of, used-of}
@@ -46,6 +48,20 @@ module _ (kv rbp key name : List ℕ) (g : Answer) (e : g ≡ mix_record kv rbp 
         → record { status = ok; session_id = n } ≡ try_record kv rbp key name
     unfolding try_record refuse_if on_ok
     tried-good v n h = rw (data_is, sym e, s, v, h)
+
+-- what a record makes of what was seen
+module _ (seen : Matches) (session i : ℕ) where
+  pub advance-refused : (n : ℕ) → n ≢ ok → record { status = n; seen = Zero } ≡ advanced seen (record { status = n; session_id = 0 }) session i
+  unfolding advanced
+  advance-refused n h = rw (ne_eqb n ok h)
+
+  pub advance-holder : (n : ℕ) → n ≡ session → seen_on (one_more seen i) ≡ advanced seen (record { status = ok; session_id = n }) session i
+  unfolding advanced
+  advance-holder n h = rw (eq-eqb n session h)
+
+  pub advance-other : (n : ℕ) → n ≢ session → seen_on seen ≡ advanced seen (record { status = ok; session_id = n }) session i
+  unfolding advanced
+  advance-other n h = rw (ne_eqb n session h)
 
 pub data_long : (b : List ℕ) → mix_valid b ≡ true → 8 ≤ length b
 data_long b v = omega (arith, (valid-parts b v).header)

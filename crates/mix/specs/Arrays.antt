@@ -2,7 +2,7 @@
 --   send_tag, send_level, send_pan        what an array has of a send
 --   send_from, sends_from, mix_from       the mix that arrays are
 --   encode_sends_tests, encode_sends      bytes made of arrays
---   SendArrays, DecodedSends           arrays as they are lent and left; what is answered
+--   SendArrays, DecodedSends, no_sends arrays as they are lent and left; what is answered
 --   spread_over, decode_sends_tests, decode_sends   arrays made of bytes
 use Rattle.std.specs.Prelude.{cond, not, List, [], ◌∷◌, ◌++◌, map, ℕ, ◌-◌, eqb, leb, Float, length, drop, replicate}
 use Rattle.buffers.specs.Bytes.{every}
@@ -12,6 +12,7 @@ use Rattle.mix.specs.Mix.{counted, mix_in_range, mix_bytes, session_at, count_at
 use Rattle.mix.specs.declared.monitor.AuxSend.{AuxSend}
 use Rattle.mix.specs.declared.monitor.AuxSend.TheVariants.{Muted, Level, LevelPan}
 use Rattle.mix.specs.declared.monitor.MonitorMix.{MonitorMix}
+use Rattle.mix.specs.declared.arrays.Decoded.{Decoded}
 
 -- the number of each case; the numbers that it holds, and +0 for those that it does not
 abbrev pub send_tag : AuxSend → ℕ
@@ -70,6 +71,10 @@ pub record DecodedSends : Type 0 where
   pub session : ℕ
   pub count : ℕ
   pub arrays : SendArrays
+
+-- what stands for it in a refusal
+abbrev pub no_sends : Decoded
+no_sends = record { session_id = 0; count = 0 }
 
 unfoldable pub decode_sends_tests : List ℕ → SendArrays → List Test
 decode_sends_tests b a =

@@ -14,9 +14,8 @@ use Rattle.spec.specs.Area.{kv_format, names}
 use Rattle.spec.specs.Interleaving.{Outcome}
 use Rattle.spec.specs.Decisions.{key_sized}
 use Rattle.spec.specs.Calls.{Areas, areas, area_lengths, area_damage, store_set, store_get, has_prefix}
-use Rattle.mix.specs.Mix.{mix_in_range, mix_bytes, session_at, mix_valid, mix_of, zero_mix, mix_buf_sized}
+use Rattle.mix.specs.Mix.{MixAnswer, mix_in_range, mix_bytes, session_at, mix_valid, mix_of, zero_mix, mix_buf_sized}
 use Rattle.mix.specs.declared.monitor.MonitorMix.{MonitorMix}
-use Rattle.mix.specs.declared.monitor.MixAnswer.{MixAnswer}
 
 -- "mix/"
 abbrev pub mix_prefix : List ℕ

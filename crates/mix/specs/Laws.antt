@@ -23,13 +23,12 @@ use Rattle.spec.specs.Demand2.{Undamaged, Readable, opened, Stores}
 use Rattle.spec.specs.Shapes.{AreBytes}
 use Rattle.mix.specs.Range.{zero, level_in_range, pan_in_range}
 use Rattle.mix.specs.Send.{send_in_range, send_bytes}
-use Rattle.mix.specs.Mix.{mix_in_range, mix_bytes, mix_valid, decode_mix, encode_mix}
+use Rattle.mix.specs.Mix.{MixAnswer, mix_in_range, mix_bytes, mix_valid, decode_mix, encode_mix}
 use Rattle.mix.specs.Calls.{store_mix, store_encoded_mix, find_encoded_mix, find_mix_by_session}
 use Rattle.mix.specs.Arrays.{send_from, mix_from, encode_sends, SendArrays, DecodedSends, decode_sends}
 use Rattle.mix.specs.declared.monitor.AuxSend.{AuxSend}
 use Rattle.mix.specs.declared.monitor.AuxSend.TheVariants.{Muted, Level, LevelPan}
 use Rattle.mix.specs.declared.monitor.MonitorMix.{MonitorMix}
-use Rattle.mix.specs.declared.monitor.MixAnswer.{MixAnswer}
 
 -- ---- the ranges
 

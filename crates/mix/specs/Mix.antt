@@ -2,7 +2,7 @@
 --   mix_in_range, mix_bytes             a mix that can be kept, and its bytes
 --   session_at, count_at, sends_at      what stands in bytes
 --   mix_valid, mix_of                  which bytes are a mix's, and which mix it is
---   zero_mix, decode_mix, encode_mix    what is answered
+--   zero_mix, MixAnswer, decode_mix, encode_mix    what is answered
 use Rattle.std.specs.Prelude.{Bool, cond, not, ◌&&◌, ℕ, ◌+◌, ◌-◌, ◌*◌, eqb, leb, length, get_or, take, drop, replicate}
 use mathlib.Core.List.{List, [], ◌∷◌, ◌++◌, map, flatten}
 use Rattle.buffers.specs.Bytes.{every, le_bytes, le_at}
@@ -12,7 +12,6 @@ use Rattle.mix.specs.Send.{send_in_range, send_bytes, send_valid, send_of}
 use Rattle.mix.specs.declared.monitor.AuxSend.{AuxSend}
 use Rattle.mix.specs.declared.monitor.AuxSend.TheVariants.{Muted}
 use Rattle.mix.specs.declared.monitor.MonitorMix.{MonitorMix}
-use Rattle.mix.specs.declared.monitor.MixAnswer.{MixAnswer}
 
 -- the sends that count
 abbrev pub counted : MonitorMix → List AuxSend
@@ -48,6 +47,11 @@ mix_of b = record { session_id = session_at b; count = count_at b; sends = read_
 -- a refusal gives 0 for every number but its status, and no send
 abbrev pub zero_mix : MonitorMix
 zero_mix = record { session_id = 0; count = 0; sends = replicate 16 Muted }
+
+-- a number, and the mix that goes with it
+pub record MixAnswer : Type 0 where
+  pub status : ℕ
+  pub mix : MonitorMix
 
 unfoldable pub decode_mix : List ℕ → MixAnswer
 decode_mix b = cond (mix_valid b) (record { status = ok; mix = mix_of b }) (record { status = 20; mix = zero_mix })

@@ -2,12 +2,12 @@
 ghost use Rattle.std.specs.Prelude.{◌≡◌, true, [], ◌∷◌, ◌++◌, ◌-◌, ◌≤◌, leb, length, replicate};
 ghost use Rattle.buffers.specs.Bytes.{every};
 ghost use Rattle.mix.specs.declared.monitor.AuxSend.TheVariants.{Muted};
-ghost use Rattle.mix.specs.Arrays.{send_from, sends_from, send_tag, send_level, send_pan, encode_sends, spread_over, decode_sends};
+ghost use Rattle.store.specs.Answers.{status_of, value_or, count_of};
+ghost use Rattle.mix.specs.Arrays.{no_sends, send_from, sends_from, send_tag, send_level, send_pan, encode_sends, spread_over, decode_sends};
 
 use crate::monitor::{AuxSend, MonitorMix};
 use crate::{codec, monitor, send};
-use store::answers::Got;
-use store::status;
+use store::status::Refusal;
 
 #[tactic(auto, unfolding(crate::specs::Arrays::send_from))]
 fn send_from(tag: u8, level: f32, pan: f32) -> AuxSend
@@ -43,23 +43,23 @@ pub fn encode_sends(
     levels: &[f32],
     pans: &[f32],
     mix_buf: &mut [u8],
-) -> Got
-    ensures { record { status = result.status; numbers = result.count ∷ []; output = mix_buf.new } ≡ encode_sends session_id tags.now levels.now pans.now mix_buf.old }
+) -> Result<usize, Refusal>
+    ensures { record { status = status_of result; numbers = count_of result ∷ []; output = mix_buf.new } ≡ encode_sends session_id tags.now levels.now pans.now mix_buf.old }
 {
     if mix_buf.len() < monitor::MAX_MIX {
-        return codec::refused(status::ERR_LENGTH);
+        return Err(Refusal::Length);
     }
     if levels.len() != tags.len() {
-        return codec::refused(status::ERR_LENGTH);
+        return Err(Refusal::Length);
     }
     if pans.len() != tags.len() {
-        return codec::refused(status::ERR_LENGTH);
+        return Err(Refusal::Length);
     }
     if monitor::MAX_SENDS < tags.len() {
-        return codec::refused(status::ERR_INVALID_MIX);
+        return Err(Refusal::InvalidMix);
     }
     if !tags_valid(tags) {
-        return codec::refused(status::ERR_INVALID_MIX);
+        return Err(Refusal::InvalidMix);
     }
     let sends = sends_from(tags, levels, pans);
     let mix = MonitorMix {
@@ -112,45 +112,34 @@ fn spread(mix: MonitorMix, tags: &mut [u8], levels: &mut [f32], pans: &mut [f32]
     }
 }
 
-// What bytes say: a refusal has session number 0 and no sends.
+// What bytes say, beside the arrays.
 #[derive(Clone, Copy)]
 pub struct Decoded {
-    pub status: u32,
     pub session_id: u64,
     pub count: usize,
 }
 
-fn not_decoded(status: u32) -> Decoded
-    ensures { result ≡ record { status = status; session_id = 0; count = 0 } }
-{
-    Decoded {
-        status,
-        session_id: 0,
-        count: 0,
-    }
-}
-
-pub fn decode_sends(b: &[u8], tags: &mut [u8], levels: &mut [f32], pans: &mut [f32]) -> Decoded
-    ensures { record { status = result.status; session = result.session_id; count = result.count; arrays = record { tags = tags.new; levels = levels.new; pans = pans.new } } ≡ decode_sends b.now (record { tags = tags.old; levels = levels.old; pans = pans.old }) }
+pub fn decode_sends(
+    b: &[u8],
+    tags: &mut [u8],
+    levels: &mut [f32],
+    pans: &mut [f32],
+) -> Result<Decoded, Refusal>
+    ensures { record { status = status_of result; session = (value_or no_sends result).session_id; count = (value_or no_sends result).count; arrays = record { tags = tags.new; levels = levels.new; pans = pans.new } } ≡ decode_sends b.now (record { tags = tags.old; levels = levels.old; pans = pans.old }) }
 {
     if tags.len() < monitor::MAX_SENDS {
-        return not_decoded(status::ERR_LENGTH);
+        return Err(Refusal::Length);
     }
     if levels.len() < monitor::MAX_SENDS {
-        return not_decoded(status::ERR_LENGTH);
+        return Err(Refusal::Length);
     }
     if pans.len() < monitor::MAX_SENDS {
-        return not_decoded(status::ERR_LENGTH);
+        return Err(Refusal::Length);
     }
-    let read = codec::decode_mix(b);
-    if read.status != status::OK {
-        return not_decoded(read.status);
-    }
-    let mix = read.mix;
+    let mix = codec::decode_mix(b)?;
     spread(mix, tags, levels, pans);
-    Decoded {
-        status: status::OK,
+    Ok(Decoded {
         session_id: mix.session_id,
         count: mix.count as usize,
-    }
+    })
 }

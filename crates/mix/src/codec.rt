@@ -2,14 +2,14 @@
 ghost use Rattle.std.specs.Prelude.{◌≡◌, true, ◌+◌, ◌*◌, ◌≤◌, length, take, drop};
 ghost use mathlib.Core.List.{[], ◌∷◌, ◌++◌, map, flatten};
 ghost use Rattle.buffers.specs.Bytes.{every, le_bytes, zero_fill};
+ghost use Rattle.store.specs.Answers.{status_of, value_or, count_of};
 ghost use Rattle.mix.specs.Mix.{mix_in_range, mix_bytes, sends_at, mix_valid, read_sends, zero_mix, decode_mix, encode_mix};
 ghost use Rattle.mix.specs.Send.{send_in_range, send_bytes, send_valid};
 
-use crate::monitor::{AuxSend, MixAnswer, MonitorMix};
+use crate::monitor::{AuxSend, MonitorMix};
 use crate::{monitor, send, session};
 use buffers::parts;
-use store::answers::Got;
-use store::status;
+use store::status::Refusal;
 
 fn sends_in_range(sends: &[AuxSend]) -> bool
     ensures { result ≡ every send_in_range sends.now }
@@ -57,29 +57,20 @@ pub(crate) fn mix_bytes(mix: MonitorMix) -> [u8; 153]
     put_sends(&mix.sends[..mix.count as usize], header)
 }
 
-pub(crate) fn refused(status: u32) -> Got
-    ensures { result ≡ record { status = status; count = 0 } }
-{
-    Got { status, count: 0 }
-}
-
 // A mix's bytes, at the front of a buffer.
-pub fn encode_mix(mix: MonitorMix, mix_buf: &mut [u8]) -> Got
-    ensures { record { status = result.status; numbers = result.count ∷ []; output = mix_buf.new } ≡ encode_mix mix mix_buf.old }
+pub fn encode_mix(mix: MonitorMix, mix_buf: &mut [u8]) -> Result<usize, Refusal>
+    ensures { record { status = status_of result; numbers = count_of result ∷ []; output = mix_buf.new } ≡ encode_mix mix mix_buf.old }
 {
     if mix_buf.len() < monitor::MAX_MIX {
-        return refused(status::ERR_LENGTH);
+        return Err(Refusal::Length);
     }
     if !mix_in_range(mix) {
-        return refused(status::ERR_INVALID_MIX);
+        return Err(Refusal::InvalidMix);
     }
     let bytes = mix_bytes(mix);
     let len = monitor::MIX_HEADER + monitor::SEND_SIZE * mix.count as usize;
-    parts::paste(mix_buf, 0, &bytes[0..len]);
-    Got {
-        status: status::OK,
-        count: len,
-    }
+    parts::paste(mix_buf, 0, &bytes[..len]);
+    Ok(len)
 }
 
 // The sends that stand behind the header are all well formed.
@@ -120,35 +111,17 @@ fn read_sends(b: &[u8], count: usize) -> [AuxSend; 16]
     sends
 }
 
-pub(crate) fn refused_mix(status: u32) -> MixAnswer
-    ensures { result ≡ record { status = status; mix = zero_mix } }
-{
-    MixAnswer {
-        status,
-        mix: MonitorMix {
-            session_id: 0,
-            count: 0,
-            sends: [AuxSend::Muted; monitor::MAX_SENDS],
-        },
-    }
-}
-
 // What bytes say, or 20.
-pub fn decode_mix(b: &[u8]) -> MixAnswer
-    ensures { result ≡ decode_mix b.now }
+pub fn decode_mix(b: &[u8]) -> Result<MonitorMix, Refusal>
+    ensures { record { status = status_of result; mix = value_or zero_mix result } ≡ decode_mix b.now }
 {
     if !mix_valid(b) {
-        return refused_mix(status::ERR_INVALID_MIX);
+        return Err(Refusal::InvalidMix);
     }
-    let session_id = session::session_at(b);
     let count = b[8];
-    let sends = read_sends(b, count as usize);
-    MixAnswer {
-        status: status::OK,
-        mix: MonitorMix {
-            session_id,
-            count,
-            sends,
-        },
-    }
+    Ok(MonitorMix {
+        session_id: session::session_at(b),
+        count,
+        sends: read_sends(b, count as usize),
+    })
 }

@@ -1,186 +1,141 @@
 // 02: "reconnecting": the mix of a session is looked for among all records of mixes. Card and chip are judged once, not for each record.
-ghost use Rattle.std.specs.Prelude.{◌≡◌, [], ◌∷◌, ◌≤◌, ◌<◌, length};
-ghost use Rattle.cipher.specs.Device.{Ready};
+ghost use Rattle.std.specs.Prelude.{◌≡◌, [], ◌∷◌, ◌≤◌, ◌<◌, length, IfOk};
+ghost use Rattle.cipher.specs.Device.{IsPrepared};
 ghost use Rattle.spec.specs.Status.{ok, first_of};
 ghost use Rattle.spec.specs.Area.{kv_format, slot_count, slots};
 ghost use Rattle.spec.specs.Decisions.{key_sized};
 ghost use Rattle.slots.specs.Found.{slot_at};
+ghost use Rattle.store.specs.Answers.{status_of, value_or, count_of};
 ghost use Rattle.store.specs.Parts.{area_tests, get_early};
 ghost use Rattle.mix.specs.Calls.{find_encoded_mix, find_mix_by_session};
-ghost use Rattle.mix.specs.Search.{try_record, advanced, try_slot, scan, begun, search_status};
+ghost use Rattle.mix.specs.Mix.{zero_mix};
+ghost use Rattle.mix.specs.Search.{try_record, one_more, try_slot, scan, search_status};
+ghost use Rattle.mix.specs.declared.find.Matches.TheVariants.{Zero, One};
 
-use crate::monitor::MixAnswer;
+use crate::monitor::MonitorMix;
 use crate::{codec, monitor, persist, session};
 use buffers::parts;
+use cipher::kdf;
 use cipher::kdf::DeviceKey;
-use cipher::{kdf, tables};
-use slots::{AreaKind, areas};
-use store::answers::Got;
+use cipher::tables::Tables;
+use records::keys::Keys;
+use slots::AreaKind;
+use slots::areas::Area;
+use store::status::Refusal;
 use store::{get, guard, status};
 
-// One record of a mix: as get, then 20; where it is accepted, its session number.
+// The records of a session in the slots so far: none, one at a place, or more.
 #[derive(Clone, Copy)]
-pub struct Tried {
-    pub status: u32,
-    pub session_id: u64,
+pub enum Matches {
+    Zero,
+    One(usize),
+    More,
 }
 
-// What was seen in the slots so far: the number of the first that is not accepted, how many hold the session, and the first of these.
+impl Matches {
+    fn with(self, at: usize) -> Matches
+        ensures { result ≡ one_more self at }
+    {
+        match self {
+            Matches::Zero => Matches::One(at),
+            Matches::One(_) => Matches::More,
+            Matches::More => Matches::More,
+        }
+    }
+
+    // 21 for two or more, 6 for none.
+    #[tactic(auto, unfolding(crate::specs::Search::search_status, spec::specs::Status::refuse_if))]
+    fn only(self) -> Result<usize, Refusal>
+        ensures number { status_of result ≡ search_status (record { status = ok; seen = self }) }
+        ensures at { IfOk result (λ at. self ≡ One at) }
+    {
+        match self {
+            Matches::Zero => Err(Refusal::NotFound),
+            Matches::One(at) => Ok(at),
+            Matches::More => Err(Refusal::Ambiguous),
+        }
+    }
+}
+
+// What a search lends each get: card and chip, judged, and the device key, prepared.
 #[derive(Clone, Copy)]
-pub struct Search {
-    pub status: u32,
-    pub matches: usize,
-    pub at: usize,
+struct Records<'a> {
+    kv: &'a [u8],
+    rbp: &'a [u8],
+    tables: &'a Tables,
+    device: &'a DeviceKey,
+    ghost passed: { first_of (area_tests kv.now rbp.now (key_sized device.now.key)) ≡ ok },
+    ghost prepared: { IsPrepared device.now },
 }
 
-fn try_record(
-    mix: &[u32; 256],
-    sub: &[u8; 256],
-    device: DeviceKey,
-    kv: &[u8],
-    rbp: &[u8],
-    name: &[u8],
-) -> Tried
-    requires name_value { first_of (get_early kv.now rbp.now device.key name.now) ≡ ok }
-    requires ready { Ready mix.now sub.now device }
-    ensures { result ≡ try_record kv.now rbp.now device.key name.now }
-{
-    let mut data = [0u8; 480];
-    let got = get::get_prepared(mix, sub, device, kv, rbp, name, 0, &mut data);
-    if got.status != status::OK {
-        return Tried {
-            status: got.status,
-            session_id: 0,
+impl<'a> Records<'a> {
+    fn card(&self) -> Area<'a>
+        ensures { (result.kind ≡ AreaKind.Kv) × (result.bytes.now ≡ self.now.kv.now) }
+    {
+        Area {
+            kind: AreaKind::Kv,
+            bytes: self.kv,
+        }
+    }
+
+    // One record of a mix: as get, then 20; where it is accepted, its session number.
+    fn session_of(&self, name: &[u8]) -> Result<u64, Refusal>
+        requires { first_of (get_early self.now.kv.now self.now.rbp.now self.now.device.now.key name.now) ≡ ok }
+        ensures { record { status = status_of result; session_id = value_or 0 result } ≡ try_record self.now.kv.now self.now.rbp.now self.now.device.now.key name.now }
+    {
+        let mut data = [0u8; 480];
+        let keys = Keys {
+            tables: self.tables,
+            device: self.device,
+            name,
         };
+        let count = get::get_prepared(&keys, self.kv, self.rbp, 0, &mut data)?;
+        if !codec::mix_valid(&data[..count]) {
+            return Err(Refusal::InvalidMix);
+        }
+        Ok(session::session_at(&data[..count]))
     }
-    let count = got.count;
-    if !codec::mix_valid(&data[0..count]) {
-        return Tried {
-            status: status::ERR_INVALID_MIX,
-            session_id: 0,
+
+    fn try_slot(&self, session_id: u64, i: usize, seen: Matches) -> Result<Matches, Refusal>
+        requires { i < slot_count kv_format self.now.kv.now }
+        ensures { record { status = status_of result; seen = value_or Zero result } ≡ try_slot self.now.kv.now self.now.rbp.now self.now.device.now.key session_id i (slot_at kv_format self.now.kv.now i) seen }
+    {
+        let card = self.card();
+        let prefix = persist::MIX_PREFIX;
+        if !card.prefix_at(&prefix, i) {
+            return Ok(seen);
+        }
+        if self.session_of(card.name_at(i))? == session_id {
+            Ok(seen.with(i))
+        } else {
+            Ok(seen)
+        }
+    }
+
+    fn search(&self, session_id: u64) -> Result<Matches, Refusal>
+        ensures { record { status = status_of result; seen = value_or Zero result } ≡ scan self.now.kv.now self.now.rbp.now self.now.device.now.key session_id 0 (slots kv_format self.now.kv.now) Zero }
+    {
+        let mut seen = Matches::Zero;
+        for i in 0..self.card().slot_count() {
+            seen = self.try_slot(session_id, i, seen)?;
+        }
+        Ok(seen)
+    }
+
+    // The search, then the bytes of the one record that holds the session, at the front of a buffer.
+    fn find(&self, session_id: u64, mix_buf: &mut [u8]) -> Result<usize, Refusal>
+        requires { 153 ≤ length mix_buf.old }
+        ensures { record { status = status_of result; numbers = count_of result ∷ []; output = mix_buf.new } ≡ find_encoded_mix self.now.kv.now self.now.rbp.now self.now.device.now.key session_id mix_buf.old }
+    {
+        let seen = self.search(session_id)?;
+        let at = seen.only()?;
+        let keys = Keys {
+            tables: self.tables,
+            device: self.device,
+            name: self.card().name_at(at),
         };
+        get::get_prepared(&keys, self.kv, self.rbp, 0, mix_buf)
     }
-    Tried {
-        status: status::OK,
-        session_id: session::session_at(&data[0..count]),
-    }
-}
-
-fn advance(s: Search, tried: Tried, session_id: u64, i: usize) -> Search
-    requires { (s.matches ≤ i) × (i < 64) }
-    ensures { result ≡ advanced s tried session_id i }
-{
-    if tried.status != status::OK {
-        return Search {
-            status: tried.status,
-            matches: s.matches,
-            at: s.at,
-        };
-    }
-    if tried.session_id != session_id {
-        return s;
-    }
-    if 0 < s.matches {
-        return Search {
-            status: s.status,
-            matches: s.matches + 1,
-            at: s.at,
-        };
-    }
-    Search {
-        status: s.status,
-        matches: 1,
-        at: i,
-    }
-}
-
-fn try_slot(
-    mix: &[u32; 256],
-    sub: &[u8; 256],
-    device: DeviceKey,
-    kv: &[u8],
-    rbp: &[u8],
-    session_id: u64,
-    i: usize,
-    s: Search,
-) -> Search
-    requires key_value { (first_of (area_tests kv.now rbp.now (key_sized device.key)) ≡ ok) × (i < slot_count kv_format kv.now) × (s.matches ≤ i) }
-    requires ready { Ready mix.now sub.now device }
-    ensures { result ≡ try_slot kv.now rbp.now device.key session_id i (slot_at kv_format kv.now i) s }
-{
-    if s.status != status::OK {
-        return s;
-    }
-    let prefix = persist::MIX_PREFIX;
-    if !areas::prefix_at(kv, &prefix, i) {
-        return s;
-    }
-    let name = areas::name_at(AreaKind::Kv, kv, i);
-    let tried = try_record(mix, sub, device, kv, rbp, name);
-    advance(s, tried, session_id, i)
-}
-
-fn search_slots(
-    mix: &[u32; 256],
-    sub: &[u8; 256],
-    device: DeviceKey,
-    kv: &[u8],
-    rbp: &[u8],
-    session_id: u64,
-) -> Search
-    requires key_value { first_of (area_tests kv.now rbp.now (key_sized device.key)) ≡ ok }
-    requires ready { Ready mix.now sub.now device }
-    ensures { result ≡ scan kv.now rbp.now device.key session_id 0 (slots kv_format kv.now) begun }
-{
-    let k = areas::slot_count(AreaKind::Kv, kv);
-    let mut s = Search {
-        status: status::OK,
-        matches: 0,
-        at: 0,
-    };
-    for i in 0..k {
-        s = try_slot(mix, sub, device, kv, rbp, session_id, i, s);
-    }
-    s
-}
-
-// 21 for two or more, 6 for none.
-fn search_status(s: Search) -> u32
-    ensures { result ≡ search_status s }
-{
-    if s.status != status::OK {
-        return s.status;
-    }
-    if 2 <= s.matches {
-        return status::ERR_AMBIGUOUS;
-    }
-    if s.matches == 0 {
-        return status::ERR_NOT_FOUND;
-    }
-    status::OK
-}
-
-// The search, then the bytes of the one record that holds the session, at the front of a buffer.
-fn find_prepared(
-    mix: &[u32; 256],
-    sub: &[u8; 256],
-    device: DeviceKey,
-    kv: &[u8],
-    rbp: &[u8],
-    session_id: u64,
-    mix_buf: &mut [u8],
-) -> Got
-    requires key_value { (first_of (area_tests kv.now rbp.now (key_sized device.key)) ≡ ok) × (153 ≤ length mix_buf.old) }
-    requires ready { Ready mix.now sub.now device }
-    ensures { record { status = result.status; numbers = result.count ∷ []; output = mix_buf.new } ≡ find_encoded_mix kv.now rbp.now device.key session_id mix_buf.old }
-{
-    let s = search_slots(mix, sub, device, kv, rbp, session_id);
-    let status = search_status(s);
-    if status != status::OK {
-        return codec::refused(status);
-    }
-    let name = areas::name_at(AreaKind::Kv, kv, s.at);
-    get::get_prepared(mix, sub, device, kv, rbp, name, 0, mix_buf)
 }
 
 // Tables and device key are prepared once for all records.
@@ -190,30 +145,36 @@ pub fn find_encoded_mix(
     device_key: &[u8],
     session_id: u64,
     mix_buf: &mut [u8],
-) -> Got
-    ensures { record { status = result.status; numbers = result.count ∷ []; output = mix_buf.new } ≡ find_encoded_mix kv.now rbp.now device_key.now session_id mix_buf.old }
+) -> Result<usize, Refusal>
+    ensures { record { status = status_of result; numbers = count_of result ∷ []; output = mix_buf.new } ≡ find_encoded_mix kv.now rbp.now device_key.now session_id mix_buf.old }
 {
     if mix_buf.len() < monitor::MAX_MIX {
-        return codec::refused(status::ERR_LENGTH);
+        return Err(Refusal::Length);
     }
     let early = guard::guard_areas(kv, rbp, device_key.len() == 16);
     if early != status::OK {
-        return codec::refused(early);
+        return Err(Refusal::Other(early));
     }
-    let mix = tables::mix_table();
-    let sub = tables::sbox_table();
-    let device = kdf::prepare(&mix, &sub, parts::array16(device_key));
-    find_prepared(&mix, &sub, device, kv, rbp, session_id, mix_buf)
+    let tables = Tables::new();
+    let device = kdf::prepare(&tables, parts::array(device_key));
+    let records = Records {
+        kv,
+        rbp,
+        tables: &tables,
+        device: &device,
+    };
+    records.find(session_id, mix_buf)
 }
 
-pub fn find_mix_by_session(kv: &[u8], rbp: &[u8], device_key: &[u8], session_id: u64) -> MixAnswer
-    ensures { result ≡ find_mix_by_session kv.now rbp.now device_key.now session_id }
+pub fn find_mix_by_session(
+    kv: &[u8],
+    rbp: &[u8],
+    device_key: &[u8],
+    session_id: u64,
+) -> Result<MonitorMix, Refusal>
+    ensures { record { status = status_of result; mix = value_or zero_mix result } ≡ find_mix_by_session kv.now rbp.now device_key.now session_id }
 {
     let mut mix = [0u8; monitor::MAX_MIX];
-    let found = find_encoded_mix(kv, rbp, device_key, session_id, &mut mix);
-    if found.status != status::OK {
-        return codec::refused_mix(found.status);
-    }
-    let count = found.count;
-    codec::decode_mix(&mix[0..count])
+    let count = find_encoded_mix(kv, rbp, device_key, session_id, &mut mix)?;
+    codec::decode_mix(&mix[..count])
 }

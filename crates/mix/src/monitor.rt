@@ -17,13 +17,6 @@ pub struct MonitorMix {
     pub sends: [AuxSend; 16],
 }
 
-// A refusal has session number 0 and no sends.
-#[derive(Clone, Copy)]
-pub struct MixAnswer {
-    pub status: u32,
-    pub mix: MonitorMix,
-}
-
 pub const MAX_SENDS: usize = 16;
 
 pub const MIX_HEADER: usize = 9;

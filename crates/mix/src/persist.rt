@@ -1,11 +1,13 @@
 // 02: "keeping": a mix is stored as a record.
 ghost use Rattle.std.specs.Prelude.{◌≡◌, []};
+ghost use Rattle.store.specs.Answers.{status_of};
 ghost use Rattle.mix.specs.Calls.{mix_named, store_if_valid, store_mix, store_encoded_mix};
 
 use crate::monitor::MonitorMix;
 use crate::{codec, monitor};
 use slots::slot;
-use store::{set, status};
+use store::set;
+use store::status::Refusal;
 
 // What the names of mixes begin with.
 pub const MIX_PREFIX: [u8; 4] = *b"mix/";
@@ -27,14 +29,14 @@ fn store_if_valid(
     iv: &[u8],
     valid: bool,
     mix: &[u8],
-) -> u32
-    ensures { record { answer = record { status = result; numbers = []; output = [] }; after = record { kv = kv.new; rbp = rbp.new } } ≡ store_if_valid kv.old rbp.old device_key.now name.now flags iv.now valid mix.now }
+) -> Result<(), Refusal>
+    ensures { record { answer = record { status = status_of result; numbers = []; output = [] }; after = record { kv = kv.new; rbp = rbp.new } } ≡ store_if_valid kv.old rbp.old device_key.now name.now flags iv.now valid mix.now }
 {
     if !valid {
-        return status::ERR_INVALID_MIX;
+        return Err(Refusal::InvalidMix);
     }
     if !mix_named(name) {
-        return status::ERR_INVALID_NAME;
+        return Err(Refusal::InvalidName);
     }
     set::set(kv, rbp, device_key, name, flags, iv, mix)
 }
@@ -48,8 +50,8 @@ pub fn store_encoded_mix(
     flags: u32,
     iv: &[u8],
     mix: &[u8],
-) -> u32
-    ensures { record { answer = record { status = result; numbers = []; output = [] }; after = record { kv = kv.new; rbp = rbp.new } } ≡ store_encoded_mix kv.old rbp.old device_key.now name.now flags iv.now mix.now }
+) -> Result<(), Refusal>
+    ensures { record { answer = record { status = status_of result; numbers = []; output = [] }; after = record { kv = kv.new; rbp = rbp.new } } ≡ store_encoded_mix kv.old rbp.old device_key.now name.now flags iv.now mix.now }
 {
     let valid = codec::mix_valid(mix);
     store_if_valid(kv, rbp, device_key, name, flags, iv, valid, mix)
@@ -63,13 +65,13 @@ pub fn store_mix(
     flags: u32,
     iv: &[u8],
     mix: MonitorMix,
-) -> u32
-    ensures { record { answer = record { status = result; numbers = []; output = [] }; after = record { kv = kv.new; rbp = rbp.new } } ≡ store_mix kv.old rbp.old device_key.now name.now flags iv.now mix }
+) -> Result<(), Refusal>
+    ensures { record { answer = record { status = status_of result; numbers = []; output = [] }; after = record { kv = kv.new; rbp = rbp.new } } ≡ store_mix kv.old rbp.old device_key.now name.now flags iv.now mix }
 {
     if !codec::mix_in_range(mix) {
-        return status::ERR_INVALID_MIX;
+        return Err(Refusal::InvalidMix);
     }
     let bytes = codec::mix_bytes(mix);
     let len = monitor::MIX_HEADER + monitor::SEND_SIZE * mix.count as usize;
-    store_if_valid(kv, rbp, device_key, name, flags, iv, true, &bytes[0..len])
+    store_if_valid(kv, rbp, device_key, name, flags, iv, true, &bytes[..len])
 }

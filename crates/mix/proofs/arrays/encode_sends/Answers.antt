@@ -13,32 +13,32 @@ use Rattle.mix.proofs.arrays.encode_sends.Goals as goal
 pub returns-then-mix_buf-lt-MAX_MIX : goal.returns-then-mix_buf-lt-MAX_MIX
 returns-then-mix_buf-lt-MAX_MIX c =
     let a = c.args in
-    rw c.refused.ensures (sym (encode-short a.session_id a.tags.now a.levels.now a.pans.now a.mix_buf.now c.if-mix_buf-lt-MAX_MIX.true))
+    sym (encode-short a.session_id a.tags.now a.levels.now a.pans.now a.mix_buf.now c.if-mix_buf-lt-MAX_MIX.true)
 
 pub returns-then-levels-tags : goal.returns-then-levels-tags
 returns-then-levels-tags c =
     let a = c.args in
     let answers = other_levels a.session_id a.tags.now a.levels.now a.pans.now a.mix_buf.now c.if-mix_buf-lt-MAX_MIX.false in
-    rw c.refused-then-levels-tags.ensures (sym (answers c.if-levels-tags.true))
+    sym (answers c.if-levels-tags.true)
 
 pub returns-then-pans-tags : goal.returns-then-pans-tags
 returns-then-pans-tags c =
     let a = c.args in
     let answers = other_pans a.session_id a.tags.now a.levels.now a.pans.now a.mix_buf.now c.if-mix_buf-lt-MAX_MIX.false c.if-levels-tags.false in
-    rw c.refused-then-pans-tags.ensures (sym (answers c.if-pans-tags.true))
+    sym (answers c.if-pans-tags.true)
 
 pub returns-then-tags-gt-MAX_SENDS : goal.returns-then-tags-gt-MAX_SENDS
 returns-then-tags-gt-MAX_SENDS c =
     let a = c.args in
     let answers = too_many a.session_id a.tags.now a.levels.now a.pans.now a.mix_buf.now c.if-mix_buf-lt-MAX_MIX.false c.if-levels-tags.false in
-    rw c.refused-then-tags-gt-MAX_SENDS.ensures (sym (answers c.if-pans-tags.false c.if-tags-gt-MAX_SENDS.true))
+    sym (answers c.if-pans-tags.false c.if-tags-gt-MAX_SENDS.true)
 
 pub returns-then-not-tags_valid : goal.returns-then-not-tags_valid
 returns-then-not-tags_valid c =
     let a = c.args in
     let answers = bad-tag a.session_id a.tags.now a.levels.now a.pans.now a.mix_buf.now c.if-mix_buf-lt-MAX_MIX.false c.if-levels-tags.false in
     let bad = is_false c.tags_valid.ensures (ap not c.if-not-tags_valid.true) in
-    rw c.refused-then-not-tags_valid.ensures (sym (answers c.if-pans-tags.false c.if-tags-gt-MAX_SENDS.false bad))
+    sym (answers c.if-pans-tags.false c.if-tags-gt-MAX_SENDS.false bad)
 
 pub returns : goal.returns
 unfolding mix_from

@@ -9,14 +9,7 @@ use Rattle.mix.proofs.codec.decode_mix.Goals as goal
 
 pub returns-then-not-mix_valid : goal.returns-then-not-mix_valid
 unfolding decode_mix
-returns-then-not-mix_valid c =
-    rw (is_false c.mix_valid.ensures (ap not c.if-not-mix_valid.true)) c.refused_mix.ensures
-
-pub session_at-session_id-requires : goal.session_at-session_id-requires
-session_at-session_id-requires c =
-    let b = c.args.b.now in
-    let p = valid-parts b (is_true c.mix_valid.ensures (ap not c.if-not-mix_valid.false)) in
-    omega (arith, p.header)
+returns-then-not-mix_valid c = rw (is_false c.mix_valid.ensures (ap not c.if-not-mix_valid.true))
 
 pub bounds-b-8 : goal.bounds-b-8
 bounds-b-8 c =
@@ -24,11 +17,14 @@ bounds-b-8 c =
     let p = valid-parts b (is_true c.mix_valid.ensures (ap not c.if-not-mix_valid.false)) in
     omega (arith, p.header)
 
-pub overflow_cast-count : goal.overflow_cast-count
-overflow_cast-count c = omega (arith, c.type_inv.b 8)
+pub session_at-requires : goal.session_at-requires
+session_at-requires c =
+    let b = c.args.b.now in
+    let p = valid-parts b (is_true c.mix_valid.ensures (ap not c.if-not-mix_valid.false)) in
+    omega (arith, p.header)
 
-pub read_sends-sends-requires : goal.read_sends-sends-requires
-read_sends-sends-requires c =
+pub read_sends-requires : goal.read_sends-requires
+read_sends-requires c =
     let b = c.args.b.now in
     let p = valid-parts b (is_true c.mix_valid.ensures (ap not c.if-not-mix_valid.false)) in
     (p.whole, p.small, p.sends)
@@ -38,7 +34,4 @@ unfolding decode_mix mix_of
 returns c =
     let b = c.args.b.now in
     rw (is_true c.mix_valid.ensures (ap not c.if-not-mix_valid.false))
-    (λ i. record {
-      status = 0;
-      mix = record { session_id = c.session_at-session_id.ensures i; count = get_or b 8 0; sends = c.read_sends-sends.ensures i };
-    })
+    (λ i. record { status = 0; mix = record { session_id = c.session_at.ensures i; count = get_or b 8 0; sends = c.read_sends.ensures i } })

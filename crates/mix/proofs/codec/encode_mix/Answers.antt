@@ -16,25 +16,17 @@ pub returns-then-mix_buf-lt-MAX_MIX : goal.returns-then-mix_buf-lt-MAX_MIX
 unfolding encode_mix
 returns-then-mix_buf-lt-MAX_MIX c =
     let buf = c.args.mix_buf.now in
-    rw c.refused.ensures (answer-refused 1 _ _ buf (short_buffer _ buf c.if-mix_buf-lt-MAX_MIX.true) (omega arith))
+    answer-refused 1 _ _ buf (short_buffer _ buf c.if-mix_buf-lt-MAX_MIX.true) (omega arith)
 
 pub returns-then-not-mix_in_range : goal.returns-then-not-mix_in_range
 unfolding encode_mix
 returns-then-not-mix_in_range c =
     let buf = c.args.mix_buf.now in
     let bad = is_false c.mix_in_range.ensures (ap not c.if-not-mix_in_range.true) in
-    rw c.refused-then-not-mix_in_range.ensures (answer-refused 20 _ _ buf (out_of_range _ buf c.if-mix_buf-lt-MAX_MIX.false bad) (omega arith))
+    answer-refused 20 _ _ buf (out_of_range _ buf c.if-mix_buf-lt-MAX_MIX.false bad) (omega arith)
 
 pub mix_bytes-bytes-requires : goal.mix_bytes-bytes-requires
 mix_bytes-bytes-requires c = is_true c.mix_in_range.ensures (ap not c.if-not-mix_in_range.false)
-
-pub slice_bounds-paste-end : goal.slice_bounds-paste-end
-slice_bounds-paste-end c =
-    let m = c.args.mix in
-    let ok = is_true c.mix_in_range.ensures (ap not c.if-not-mix_in_range.false) in
-    let small = (range-parts m ok).0 in
-    let size = c.mix_bytes-bytes.ensures.mix_len in
-    omega (arith, small)
 
 pub paste-requires : goal.paste-requires
 paste-requires c =

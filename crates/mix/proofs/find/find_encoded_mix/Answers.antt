@@ -2,6 +2,7 @@
 use mathlib.Core.Path.{sym, ap, ◌∙◌}
 use mathlib.Core.List.{List}
 use Prim.Native.Nat.{ℕ}
+use native.Mathlib.Omega.{arith}
 use Rattle.cipher.specs.declared.kdf.DeviceKey.{DeviceKey}
 use Rattle.cipher.specs.Device.{prepared}
 use Rattle.mix.specs.Calls.{find_encoded_mix}
@@ -17,37 +18,37 @@ use Rattle.mix.proofs.find.find_encoded_mix.Goals as goal
 pub returns-then-mix_buf-lt-MAX_MIX : goal.returns-then-mix_buf-lt-MAX_MIX
 returns-then-mix_buf-lt-MAX_MIX c =
     let a = c.args in
-    rw c.refused.ensures (sym ((find-exact a.kv.now a.rbp.now a.device_key.now).short a.session_id a.mix_buf.now c.if-mix_buf-lt-MAX_MIX.true))
+    sym ((find-exact a.kv.now a.rbp.now a.device_key.now).short a.session_id a.mix_buf.now c.if-mix_buf-lt-MAX_MIX.true)
 
 pub returns-then-early-ne-OK : goal.returns-then-early-ne-OK
 unfolding find_encoded_mix
 returns-then-early-ne-OK c =
     let a = c.args in
     let buf = a.mix_buf.now in
-    rw c.refused-then-early-ne-OK.ensures (answer-refused _ _ _ buf
+    answer-refused _ _ _ buf
     (guard_refuses a.kv.now a.rbp.now a.device_key.now a.session_id buf c.if-mix_buf-lt-MAX_MIX.false _ c.guard_areas-early.ensures c.if-early-ne-OK.true)
-    c.if-early-ne-OK.true)
+    c.if-early-ne-OK.true
 
-pub array16-requires : goal.array16-requires
-array16-requires c =
+pub array-requires : goal.array-requires
+array-requires c =
     let a = c.args in
-    key_is_sized a.kv.now a.rbp.now a.device_key.now (sym c.guard_areas-early.ensures ∙ c.if-early-ne-OK.false)
+    (omega arith, key_is_sized a.kv.now a.rbp.now a.device_key.now (sym c.guard_areas-early.ensures ∙ c.if-early-ne-OK.false))
 
-pub prepare-device-requires : goal.prepare-device-requires
-prepare-device-requires c = (c.mix_table-mix.ensures, c.sbox_table-sub.ensures)
-
-pub find_prepared-requires : goal.find_prepared-requires
+pub invariant_of-records : goal.invariant_of-records
 unfolding prepared
-find_prepared-requires c =
+invariant_of-records c =
     let a = c.args in
     let e = c.prepare-device.ensures in
-    let key = ap (λ (d : DeviceKey). d.key) e ∙ c.array16.ensures in
-    let g = ap (λ (k : List ℕ). first_of (area_tests a.kv.now a.rbp.now (key_sized k))) key ∙ sym c.guard_areas-early.ensures ∙ c.if-early-ne-OK.false in
-    record { key_value = (g, c.if-mix_buf-lt-MAX_MIX.false); ready = (c.mix_table-mix.ensures, c.sbox_table-sub.ensures, e ∙ ap prepared (sym (ap (λ (d : DeviceKey). d.key) e))) }
+    let key = ap (λ (d : DeviceKey). d.key) e in
+    record {
+      passed = ap (λ (k : List ℕ). first_of (area_tests a.kv.now a.rbp.now (key_sized k))) (key ∙ c.array.ensures)
+          ∙ sym c.guard_areas-early.ensures ∙ c.if-early-ne-OK.false;
+      prepared = e ∙ ap prepared (sym key);
+    }
 
 pub returns : goal.returns
 unfolding prepared
 returns c =
     let a = c.args in
-    let key = ap (λ (d : DeviceKey). d.key) c.prepare-device.ensures ∙ c.array16.ensures in
-    c.find_prepared.ensures ∙ ap (λ (k : List ℕ). find_encoded_mix a.kv.now a.rbp.now k a.session_id a.mix_buf.now) key
+    let key = ap (λ (d : DeviceKey). d.key) c.prepare-device.ensures ∙ c.array.ensures in
+    c.find.ensures ∙ ap (λ (k : List ℕ). find_encoded_mix a.kv.now a.rbp.now k a.session_id a.mix_buf.now) key

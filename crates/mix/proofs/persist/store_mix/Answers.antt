@@ -18,11 +18,6 @@ returns-then-not-mix_in_range c = rw (is_false c.mix_in_range.ensures (ap not c.
 pub mix_bytes-bytes-requires : goal.mix_bytes-bytes-requires
 mix_bytes-bytes-requires c = is_true c.mix_in_range.ensures (ap not c.if-not-mix_in_range.false)
 
-pub slice_bounds-store_if_valid-end : goal.slice_bounds-store_if_valid-end
-slice_bounds-store_if_valid-end c =
-    let m = c.args.mix in
-    omega (arith, (range-parts m (is_true c.mix_in_range.ensures (ap not c.if-not-mix_in_range.false))).0)
-
 pub returns : goal.returns
 unfolding store_mix
 returns c =
