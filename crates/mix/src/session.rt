@@ -1,22 +1,19 @@
-// A session number's eight bytes, little-endian, as two numbers of four.
+// A session number's eight bytes, little-endian.
 ghost use Rattle.std.specs.Prelude.{◌≡◌, ◌≤◌, length};
 ghost use Rattle.buffers.specs.Bytes.{le_bytes, le_at, put_at};
 
-use buffers::numbers;
+use buffers::parts;
 
 pub(crate) fn put_session(session_id: u64, b: &mut [u8])
     requires { 8 ≤ length b.old }
     ensures { b.new ≡ put_at b.old 0 (le_bytes 8 session_id) }
 {
-    numbers::put_le_at((session_id % 4294967296) as u32, b, 0, 4);
-    numbers::put_le_at((session_id / 4294967296) as u32, b, 4, 4);
+    parts::paste(b, 0, &session_id.to_le_bytes());
 }
 
 pub(crate) fn session_at(b: &[u8]) -> u64
     requires { 8 ≤ length b.now }
     ensures { result ≡ le_at 8 b.now 0 }
 {
-    let low = numbers::le_at(b, 0, 4) as u64;
-    let high = numbers::le_at(b, 4, 4) as u64;
-    low + 4294967296 * high
+    u64::from_le_bytes(parts::array(&b[..8]))
 }

@@ -1,9 +1,12 @@
--- `mix::session::session_at`: the low half, and the high half's 2 ^ 32.
-use mathlib.Core.Path.{sym}
-use Rattle.mix.proofs.Numbers.{eight-at}
+-- `mix::session::session_at`: the number of the library's bytes.
+use mathlib.Core.Path.{ap, ◌∙◌}
+use lib.ListN.{take}
+use lib.Seq.{length-take-le}
+use Rattle.std.specs.Int.{w64, from_le_bytes}
+use Rattle.mix.proofs.Numbers.{eight-value}
 use Rattle.mix.proofs.session.session_at.Goals as goal
 
 pub returns : goal.returns
 returns c =
-    let e = eight-at c.args.b.now c.requires in
-    rw (c.le_at-low.ensures, c.le_at-high.ensures) (sym e)
+    let b = c.args.b.now in
+    c.from_le_bytes.ensures ∙ ap (from_le_bytes w64) c.array.ensures ∙ eight-value (take 8 b) (length-take-le 8 b c.requires)
