@@ -3,22 +3,11 @@ ghost use Rattle.std.specs.Prelude.{◌≡◌, true, [], ◌∷◌, ◌++◌, �
 ghost use Rattle.buffers.specs.Bytes.{every};
 ghost use Rattle.mix.specs.declared.monitor.AuxSend.TheVariants.{Muted};
 ghost use Rattle.store.specs.Answers.{status_of, value_or, count_of};
-ghost use Rattle.mix.specs.Arrays.{no_sends, send_from, sends_from, send_tag, send_level, send_pan, encode_sends, spread_over, decode_sends};
+ghost use Rattle.mix.specs.Arrays.{no_sends, sends_from, send_tag, send_level, send_pan, encode_sends, spread_over, decode_sends};
 
 use crate::monitor::{AuxSend, MonitorMix};
 use crate::{codec, monitor, send};
 use store::status::Refusal;
-
-#[tactic(auto, unfolding(crate::specs::Arrays::send_from))]
-fn send_from(tag: u8, level: f32, pan: f32) -> AuxSend
-    ensures { result ≡ send_from tag level pan }
-{
-    match tag {
-        send::TAG_MUTED => AuxSend::Muted,
-        send::TAG_LEVEL => AuxSend::Level(level),
-        _ => AuxSend::LevelPan(level, pan),
-    }
-}
 
 fn tags_valid(tags: &[u8]) -> bool
     ensures { result ≡ every (λ t. leb t 2) tags.now }
@@ -32,7 +21,7 @@ fn sends_from(tags: &[u8], levels: &[f32], pans: &[f32]) -> [AuxSend; 16]
 {
     let mut sends = [AuxSend::Muted; monitor::MAX_SENDS];
     for (i, tag) in tags.iter().enumerate() {
-        sends[i] = send_from(*tag, levels[i], pans[i]);
+        sends[i] = send::send_from(*tag, levels[i], pans[i]);
     }
     sends
 }
@@ -70,33 +59,14 @@ pub fn encode_sends(
     codec::encode_mix(mix, mix_buf)
 }
 
-fn send_tag(send: AuxSend) -> u8
-    ensures { result ≡ send_tag send }
+// Tag, level and pan; 0.0 stands for what a send has not.
+fn send_parts(send: AuxSend) -> (u8, f32, f32)
+    ensures { (result.0 ≡ send_tag send) × (result.1 ≡ send_level send) × (result.2 ≡ send_pan send) }
 {
     match send {
-        AuxSend::Muted => send::TAG_MUTED,
-        AuxSend::Level(_) => send::TAG_LEVEL,
-        AuxSend::LevelPan(_, _) => send::TAG_LEVEL_PAN,
-    }
-}
-
-fn send_level(send: AuxSend) -> f32
-    ensures { result ≡ send_level send }
-{
-    match send {
-        AuxSend::Muted => 0.0,
-        AuxSend::Level(level) => level,
-        AuxSend::LevelPan(level, _) => level,
-    }
-}
-
-fn send_pan(send: AuxSend) -> f32
-    ensures { result ≡ send_pan send }
-{
-    match send {
-        AuxSend::Muted => 0.0,
-        AuxSend::Level(_) => 0.0,
-        AuxSend::LevelPan(_, pan) => pan,
+        AuxSend::Muted => (send::TAG_MUTED, 0.0, 0.0),
+        AuxSend::Level(level) => (send::TAG_LEVEL, level, 0.0),
+        AuxSend::LevelPan(level, pan) => (send::TAG_LEVEL_PAN, level, pan),
     }
 }
 
@@ -106,9 +76,10 @@ fn spread(mix: MonitorMix, tags: &mut [u8], levels: &mut [f32], pans: &mut [f32]
     ensures { record { tags = tags.new; levels = levels.new; pans = pans.new } ≡ spread_over mix (record { tags = tags.old; levels = levels.old; pans = pans.old }) }
 {
     for (i, send) in mix.sends[..mix.count as usize].iter().enumerate() {
-        tags[i] = send_tag(*send);
-        levels[i] = send_level(*send);
-        pans[i] = send_pan(*send);
+        let (tag, level, pan) = send_parts(*send);
+        tags[i] = tag;
+        levels[i] = level;
+        pans[i] = pan;
     }
 }
 

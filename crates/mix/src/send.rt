@@ -1,6 +1,7 @@
 // A send and its nine bytes.
 ghost use Rattle.std.specs.Prelude.{◌≡◌, true, ◌∷◌, ◌++◌, length};
 ghost use Rattle.buffers.specs.Bytes.{le_bytes};
+ghost use Rattle.mix.specs.Arrays.{send_from};
 ghost use Rattle.mix.specs.Send.{send_in_range, send_bytes, send_valid, send_of};
 
 use crate::monitor::AuxSend;
@@ -24,7 +25,7 @@ pub fn send_in_range(send: AuxSend) -> bool
 }
 
 // The nine bytes, from their parts.
-fn send_parts(tag: u8, level: u32, pan: u32) -> [u8; 9]
+fn nine_bytes(tag: u8, level: u32, pan: u32) -> [u8; 9]
     ensures { result ≡ tag ∷ (le_bytes 4 level ++ le_bytes 4 pan) }
 {
     let mut b = [0u8; 9];
@@ -40,10 +41,10 @@ pub(crate) fn encode_send(send: AuxSend) -> [u8; 9]
     ensures { result ≡ send_bytes send }
 {
     match send {
-        AuxSend::Muted => send_parts(TAG_MUTED, 0, 0),
-        AuxSend::Level(level) => send_parts(TAG_LEVEL, f32::to_bits(level), 0),
+        AuxSend::Muted => nine_bytes(TAG_MUTED, 0, 0),
+        AuxSend::Level(level) => nine_bytes(TAG_LEVEL, f32::to_bits(level), 0),
         AuxSend::LevelPan(level, pan) => {
-            send_parts(TAG_LEVEL_PAN, f32::to_bits(level), f32::to_bits(pan))
+            nine_bytes(TAG_LEVEL_PAN, f32::to_bits(level), f32::to_bits(pan))
         }
     }
 }
@@ -66,16 +67,24 @@ pub(crate) fn send_valid(b: &[u8]) -> bool
     }
 }
 
+// A level or a pan that the tag does not have is not looked at.
+#[tactic(auto, unfolding(crate::specs::Arrays::send_from))]
+pub(crate) fn send_from(tag: u8, level: f32, pan: f32) -> AuxSend
+    ensures { result ≡ send_from tag level pan }
+{
+    match tag {
+        TAG_MUTED => AuxSend::Muted,
+        TAG_LEVEL => AuxSend::Level(level),
+        _ => AuxSend::LevelPan(level, pan),
+    }
+}
+
+// Unused bytes are zero, so that each of the two is the bits of a float that is no NaN.
 pub(crate) fn decode_send(b: &[u8]) -> AuxSend
     requires { (length b.now ≡ 9) × (send_valid b.now ≡ true) }
     ensures { result ≡ send_of b.now }
 {
-    match b[0] {
-        TAG_MUTED => AuxSend::Muted,
-        TAG_LEVEL => AuxSend::Level(f32::from_bits(numbers::le_at(b, 1, 4))),
-        _ => AuxSend::LevelPan(
-            f32::from_bits(numbers::le_at(b, 1, 4)),
-            f32::from_bits(numbers::le_at(b, 5, 4)),
-        ),
-    }
+    let level = f32::from_bits(numbers::le_at(b, 1, 4));
+    let pan = f32::from_bits(numbers::le_at(b, 5, 4));
+    send_from(b[0], level, pan)
 }

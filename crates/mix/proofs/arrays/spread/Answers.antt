@@ -21,9 +21,9 @@ loop-i-preserved c =
     let h = c.loop-i-test.true in
     let all : length a.mix.sends ≡ 16 = search rules in
     let n = length-take-le a.mix.count a.mix.sends (omega (arith, all, c.requires.0)) in
-    let t = part-more send_tag i sends Muted a.tags.now _ _ h (omega (arith, h, n, c.requires)) c.send_tag.ensures c.loop-i.invariant.0 in
-    let l = part-more send_level i sends Muted a.levels.now _ _ h (omega (arith, h, n, c.requires)) c.send_level.ensures c.loop-i.invariant.1 in
-    let p = part-more send_pan i sends Muted a.pans.now _ _ h (omega (arith, h, n, c.requires)) c.send_pan.ensures c.loop-i.invariant.2 in
+    let t = part-more send_tag i sends Muted a.tags.now _ _ h (omega (arith, h, n, c.requires)) c.send_parts-tag.ensures.0 c.loop-i.invariant.0 in
+    let l = part-more send_level i sends Muted a.levels.now _ _ h (omega (arith, h, n, c.requires)) c.send_parts-tag.ensures.1 c.loop-i.invariant.1 in
+    let p = part-more send_pan i sends Muted a.pans.now _ _ h (omega (arith, h, n, c.requires)) c.send_parts-tag.ensures.2 c.loop-i.invariant.2 in
     (rw (add-one i) t, rw (add-one i) l, rw (add-one i) p)
 
 pub returns : goal.returns

@@ -1,9 +1,9 @@
--- `mix::send::send_parts`: each part behind the one before it.
+-- `mix::send::nine_bytes`: each part behind the one before it.
 use mathlib.Core.Path.{ap, ◌∙◌}
 use mathlib.Core.List.{List}
 use Prim.Native.Nat.{ℕ}
 use Rattle.buffers.specs.Bytes.{le_bytes, put_at}
-use Rattle.mix.proofs.send.send_parts.Goals as goal
+use Rattle.mix.proofs.send.nine_bytes.Goals as goal
 
 pub returns : goal.returns
 returns c =
