@@ -48,7 +48,7 @@ fn put_sends(sends: &[AuxSend], header: [u8; 153]) -> [u8; 153]
 }
 
 // The bytes of a mix in range, zeros behind them.
-pub(crate) fn mix_bytes(mix: MonitorMix) -> [u8; 153]
+fn mix_bytes(mix: MonitorMix) -> [u8; 153]
     requires { mix_in_range mix ≡ true }
     ensures value { result ≡ zero_fill 153 (mix_bytes mix) }
     ensures mix_len { length (mix_bytes mix) ≡ 9 + 9 * mix.count }

@@ -1,5 +1,5 @@
 // 02: "keeping": a mix is stored as a record.
-ghost use Rattle.std.specs.Prelude.{◌≡◌, []};
+ghost use Rattle.std.specs.Prelude.{◌≡◌, true, []};
 ghost use Rattle.store.specs.Answers.{status_of};
 ghost use Rattle.mix.specs.Calls.{mix_named, store_if_valid, store_mix, store_encoded_mix};
 
@@ -19,22 +19,18 @@ pub(crate) fn mix_named(name: &[u8]) -> bool
     slot::has_prefix(name, &prefix)
 }
 
-// 20 where the bytes are no mix's, 3 for another name, then as set.
-fn store_if_valid(
+// The bytes of a mix: 3 for another name, then as set.
+fn store_valid(
     kv: &mut [u8],
     rbp: &mut [u8],
     device_key: &[u8],
     name: &[u8],
     flags: u32,
     iv: &[u8],
-    valid: bool,
     mix: &[u8],
 ) -> Result<(), Refusal>
-    ensures { record { answer = record { status = status_of result; numbers = []; output = [] }; after = record { kv = kv.new; rbp = rbp.new } } ≡ store_if_valid kv.old rbp.old device_key.now name.now flags iv.now valid mix.now }
+    ensures { record { answer = record { status = status_of result; numbers = []; output = [] }; after = record { kv = kv.new; rbp = rbp.new } } ≡ store_if_valid kv.old rbp.old device_key.now name.now flags iv.now true mix.now }
 {
-    if !valid {
-        return Err(Refusal::InvalidMix);
-    }
     if !mix_named(name) {
         return Err(Refusal::InvalidName);
     }
@@ -53,8 +49,10 @@ pub fn store_encoded_mix(
 ) -> Result<(), Refusal>
     ensures { record { answer = record { status = status_of result; numbers = []; output = [] }; after = record { kv = kv.new; rbp = rbp.new } } ≡ store_encoded_mix kv.old rbp.old device_key.now name.now flags iv.now mix.now }
 {
-    let valid = codec::mix_valid(mix);
-    store_if_valid(kv, rbp, device_key, name, flags, iv, valid, mix)
+    if !codec::mix_valid(mix) {
+        return Err(Refusal::InvalidMix);
+    }
+    store_valid(kv, rbp, device_key, name, flags, iv, mix)
 }
 
 pub fn store_mix(
@@ -68,10 +66,7 @@ pub fn store_mix(
 ) -> Result<(), Refusal>
     ensures { record { answer = record { status = status_of result; numbers = []; output = [] }; after = record { kv = kv.new; rbp = rbp.new } } ≡ store_mix kv.old rbp.old device_key.now name.now flags iv.now mix }
 {
-    if !codec::mix_in_range(mix) {
-        return Err(Refusal::InvalidMix);
-    }
-    let bytes = codec::mix_bytes(mix);
-    let len = monitor::MIX_HEADER + monitor::SEND_SIZE * mix.count as usize;
-    store_if_valid(kv, rbp, device_key, name, flags, iv, true, &bytes[..len])
+    let mut bytes = [0u8; monitor::MAX_MIX];
+    let len = codec::encode_mix(mix, &mut bytes)?;
+    store_valid(kv, rbp, device_key, name, flags, iv, &bytes[..len])
 }
