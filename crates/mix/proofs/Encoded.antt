@@ -66,8 +66,12 @@ module _ (m : MonitorMix) (buf : List ℕ) (long : 153 ≤ length buf) (g : Answ
 
   module _ (h : g.status ≡ ok) where
     pub encoded-range : mix_in_range m ≡ true
-    encoded-range = split (mix_in_range m) (λ t. t) (λ f. absurd (omega (arith, h, ap (λ (a : Answer). a.status)
-        (e ∙ encode-exact.out_of_range m buf long (λ r. clash (mix_in_range m) (mix-range-of m r) f)))))
+    encoded-range = split (mix_in_range m) (λ t. t) (λ f. absurd (omega (
+      arith,
+      h,
+      ap (λ (a : Answer). a.status)
+          (e ∙ encode-exact.out_of_range m buf long (λ r. clash (mix_in_range m) (mix-range-of m r) f)),
+    )))
 
     held : g ≡ holding buf (mix_bytes m)
     held = e ∙ encode-exact.gives m buf long (mix-range-to m encoded-range)

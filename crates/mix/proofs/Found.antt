@@ -19,7 +19,6 @@ use Rattle.store.specs.Parts.{area_tests}
 use Rattle.mix.specs.Mix.{MixAnswer, mix_valid, mix_of, zero_mix, mix_buf_sized, decode_mix}
 use Rattle.mix.specs.Calls.{first_name, mix_names, record_tests, holders, find_tests, found_data, find_encoded_mix, find_mix_by_session}
 use Rattle.mix.specs.Search.{Seen, seen_on, scan, search_status}
-use Rattle.mix.specs.declared.find.Matches.{Matches}
 use Rattle.mix.specs.declared.find.Matches.TheVariants.{Zero, One}
 use Rattle.mix.proofs.Scan.{record_status, scan-status, scan-found}
 use Rattle.mix.proofs.Tried.{sane}

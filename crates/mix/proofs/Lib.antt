@@ -1,4 +1,3 @@
-pub mod Refusals
 pub mod Bits
 pub mod RangeLaws
 pub mod MixLayout

@@ -4,21 +4,21 @@ use mathlib.Core.Logic.{◌≢◌}
 use mathlib.Core.Bool.{Bool, true, false, not}
 use mathlib.Core.List.{List, [], ◌∷◌, ◌++◌, map, flatten, append_assoc}
 use mathlib.Core.Option.{none, some}
-use Prim.Native.Nat.{ℕ, suc, ◌+◌, ◌≤◌, ◌<◌}
+use Prim.Native.Nat.{ℕ, suc, ◌+◌, ◌<◌}
 use native.Mathlib.Omega.{arith}
 use borrow.Author.Tests.{eqb-true, eqb-false, ne_eqb, le-leb}
-use lib.Dec.{eqb, leb, ltb}
+use lib.Dec.{eqb, leb}
 use lib.ListN.{length, get_or}
 use Rattle.spec.specs.Status.{ok, is_ok, Test, ◌when◌, refuse_if, first_of, on_ok}
 use Rattle.spec.specs.Name.{Name}
 use Rattle.spec.specs.Slots.{names_by}
-use Rattle.spec.specs.Area.{kv_format, slot_free, slot_name, slot_used, slot_valid, slot_holder, slot_count, slots, sized, intact}
+use Rattle.spec.specs.Area.{kv_format, slot_free, slot_name, slot_used, slot_valid, slot_holder, slot_count, slots, intact}
 use Rattle.spec.specs.Calls.{slot_has_prefix}
 use Rattle.buffers.proofs.Split.{split, split_o, clash_o}
 use Rattle.spec.proofs.Chunks.{slots_length}
 use Rattle.spec.proofs.First.{every-index}
 use Rattle.spec.proofs.Area.{intact-valid}
-use Rattle.spec.proofs.Status.{got-ok, Passed, passed, past, stops, by-status}
+use Rattle.spec.proofs.Status.{got-ok, Passed, passed, past, stops}
 use Rattle.mix.specs.Mix.{session_at, mix_valid}
 use Rattle.mix.specs.Calls.{mix_prefix, mix_named, selected, first_name, mix_names, mix_record, mix_data, record_tests, holders}
 use Rattle.mix.specs.Search.{Seen, seen_on, one_more, advanced, search_status, try_record, try_slot, scan}

@@ -22,7 +22,7 @@ use records::keys::Keys;
 use slots::AreaKind;
 use slots::areas::Area;
 use store::status::Refusal;
-use store::{get, guard, status};
+use store::{get, guard};
 
 // The records of a session in the slots so far: none, one at a place, or more.
 #[derive(Clone, Copy)]
@@ -151,10 +151,7 @@ pub fn find_encoded_mix(
     if mix_buf.len() < monitor::MAX_MIX {
         return Err(Refusal::Length);
     }
-    let early = guard::guard_areas(kv, rbp, device_key.len() == 16);
-    if early != status::OK {
-        return Err(Refusal::Other(early));
-    }
+    guard::guard_areas(kv, rbp, device_key.len() == 16)?;
     let tables = Tables::new();
     let device = kdf::prepare(&tables, parts::array(device_key));
     let records = Records {

@@ -4,7 +4,7 @@ use Rattle.mix.specs.Arrays.{SendArrays, DecodedSends}
 use Rattle.mix.proofs.ArrayLaws.{decoded_small, short-tags, short-levels, short-pans, is_no_mix, is-spread}
 use Rattle.mix.specs.Mix.{zero_mix}
 use Rattle.store.specs.Answers.{code}
-use Rattle.mix.proofs.Refusals.{refused_number, handed_on}
+use Rattle.store.proofs.Tests.{refused_number, handed_on}
 use Rattle.mix.proofs.arrays.decode_sends.Goals as goal
 
 pub returns-then-tags-lt-MAX_SENDS : goal.returns-then-tags-lt-MAX_SENDS

@@ -13,6 +13,7 @@ use Rattle.mix.proofs.Found.{guard_refuses}
 use Rattle.spec.specs.Status.{first_of}
 use Rattle.spec.specs.Decisions.{key_sized}
 use Rattle.store.specs.Parts.{area_tests}
+use Rattle.store.proofs.Tests.{refused_number, handed_on}
 use Rattle.mix.proofs.find.find_encoded_mix.Goals as goal
 
 pub returns-then-mix_buf-lt-MAX_MIX : goal.returns-then-mix_buf-lt-MAX_MIX
@@ -20,19 +21,21 @@ returns-then-mix_buf-lt-MAX_MIX c =
     let a = c.args in
     sym ((find-exact a.kv.now a.rbp.now a.device_key.now).short a.session_id a.mix_buf.now c.if-mix_buf-lt-MAX_MIX.true)
 
-pub returns-then-early-ne-OK : goal.returns-then-early-ne-OK
+pub returns-in_err-guard_areas : goal.returns-in_err-guard_areas
 unfolding find_encoded_mix
-returns-then-early-ne-OK c =
+returns-in_err-guard_areas c =
     let a = c.args in
+    let e = c.in_err-guard_areas.field-0.0 in
     let buf = a.mix_buf.now in
-    answer-refused _ _ _ buf
-    (guard_refuses a.kv.now a.rbp.now a.device_key.now a.session_id buf c.if-mix_buf-lt-MAX_MIX.false _ c.guard_areas-early.ensures c.if-early-ne-OK.true)
-    c.if-early-ne-OK.true
+    rw (handed_on _ e c.from_residual.ensures)
+    (answer-refused _ _ _ buf
+    (guard_refuses a.kv.now a.rbp.now a.device_key.now a.session_id buf c.if-mix_buf-lt-MAX_MIX.false _ c.in_err-guard_areas.ensures (refused_number e))
+    (refused_number e))
 
 pub array-requires : goal.array-requires
 array-requires c =
     let a = c.args in
-    (omega arith, key_is_sized a.kv.now a.rbp.now a.device_key.now (sym c.guard_areas-early.ensures ∙ c.if-early-ne-OK.false))
+    (omega arith, key_is_sized a.kv.now a.rbp.now a.device_key.now (sym c.in_ok-guard_areas.ensures))
 
 pub invariant_of-records : goal.invariant_of-records
 unfolding prepared
@@ -42,7 +45,7 @@ invariant_of-records c =
     let key = ap (λ (d : DeviceKey). d.key) e in
     record {
       passed = ap (λ (k : List ℕ). first_of (area_tests a.kv.now a.rbp.now (key_sized k))) (key ∙ c.array.ensures)
-          ∙ sym c.guard_areas-early.ensures ∙ c.if-early-ne-OK.false;
+          ∙ sym c.in_ok-guard_areas.ensures;
       prepared = e ∙ ap prepared (sym key);
     }
 

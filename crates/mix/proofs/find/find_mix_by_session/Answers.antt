@@ -5,7 +5,7 @@ use native.Mathlib.Omega.{arith}
 use lib.Seq.{length-take-le}
 use Rattle.spec.specs.Status.{Answer}
 use Rattle.store.specs.Answers.{code}
-use Rattle.mix.proofs.Refusals.{refused_number, handed_on}
+use Rattle.store.proofs.Tests.{refused_number, handed_on}
 use Rattle.mix.proofs.Found.{not_found, found-fits, found-is}
 use Rattle.mix.proofs.find.find_mix_by_session.Goals as goal
 

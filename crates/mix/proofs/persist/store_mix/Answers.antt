@@ -10,7 +10,7 @@ use lib.Seq.{length-take-le}
 use Rattle.spec.specs.Status.{refuse_if, on_ok, Answer}
 use Rattle.store.specs.Answers.{code}
 use Rattle.mix.specs.Calls.{store_if_valid, store_mix}
-use Rattle.mix.proofs.Refusals.{refused_number, handed_on}
+use Rattle.store.proofs.Tests.{refused_number, handed_on}
 use Rattle.mix.proofs.Encoded.{not-encoded, encoded-range, encoded-bytes, encoded-fits}
 use Rattle.mix.proofs.persist.store_mix.Goals as goal
 

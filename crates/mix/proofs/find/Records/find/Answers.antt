@@ -4,7 +4,7 @@ use Rattle.spec.proofs.Status.{answer-refused}
 use Rattle.mix.specs.Calls.{find_encoded_mix}
 use Rattle.mix.specs.Search.{seen_on}
 use Rattle.mix.specs.declared.find.Matches.TheVariants.{Zero}
-use Rattle.mix.proofs.Refusals.{refused_number, handed_on}
+use Rattle.store.proofs.Tests.{refused_number, handed_on}
 use Rattle.mix.proofs.Scan.{status-refused}
 use Rattle.mix.proofs.Tried.{name-early}
 use Rattle.mix.proofs.Found.{search-decides, slot-found, given}

@@ -1,6 +1,6 @@
 -- `mix::find::Records::search`. The invariant: the slots that are left give what all give.
 use Prim.Native.Nat.{◌<◌}
-use mathlib.Core.Path.{◌≡◌, refl, sym, ap, ◌∙◌}
+use mathlib.Core.Path.{refl, sym, ap, ◌∙◌}
 use mathlib.Core.List.{List, []}
 use Prim.Native.Nat.{ℕ, suc}
 use native.Mathlib.Numerals.{add-one}
@@ -10,7 +10,7 @@ use lib.Seq.{drop-cons}
 use Rattle.spec.specs.Area.{kv_format, slots}
 use Rattle.spec.proofs.Chunks.{slots_length}
 use Rattle.mix.specs.Search.{scan}
-use Rattle.mix.proofs.Refusals.{refused_number, handed_on}
+use Rattle.store.proofs.Tests.{refused_number, handed_on}
 use Rattle.mix.proofs.Scan.{scan-stops, scan-on}
 use Rattle.mix.proofs.find.Records.search.Goals as goal
 

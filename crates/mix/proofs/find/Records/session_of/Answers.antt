@@ -6,7 +6,7 @@ use lib.Seq.{length-take-le}
 use Rattle.spec.specs.Status.{Answer}
 use Rattle.store.specs.Answers.{code}
 use Rattle.mix.specs.Calls.{mix_record}
-use Rattle.mix.proofs.Refusals.{refused_number, handed_on}
+use Rattle.store.proofs.Tests.{refused_number, handed_on}
 use Rattle.mix.proofs.Tried.{count_fits, tried-refused, tried-bad, tried-good, data_long}
 use Rattle.mix.proofs.find.Records.session_of.Goals as goal
 

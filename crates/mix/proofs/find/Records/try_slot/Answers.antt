@@ -1,7 +1,7 @@
 -- `mix::find::Records::try_slot`: a slot of a mix, whose record is tried.
 use mathlib.Core.Path.{sym, ap, ◌∙◌}
 use Rattle.mix.specs.Search.{Tried, advanced, try_record, try_slot}
-use Rattle.mix.proofs.Refusals.{refused_number, handed_on}
+use Rattle.store.proofs.Tests.{refused_number, handed_on}
 use Rattle.mix.proofs.Tried.{prefixed-used, sane, name-early, advance-refused, advance-holder, advance-other}
 use Rattle.mix.proofs.find.Records.try_slot.Goals as goal
 
