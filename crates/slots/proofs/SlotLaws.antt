@@ -2,7 +2,7 @@
 use mathlib.Core.Path.{◌≡◌, refl, sym, ◌∙◌}
 use mathlib.Core.Bool.{true, false, ◌&&◌, or-false, or-true}
 use mathlib.Core.List.{List}
-use mathlib.Core.Option.{none, some}
+use mathlib.Core.Option.{some}
 use Prim.Native.Nat.{ℕ, ◌+◌, ◌-◌}
 use native.Mathlib.Omega.{arith}
 use borrow.Author.Tests.{ne_eqb}
@@ -36,14 +36,6 @@ module _ (F : Format) (s : List ℕ) where
 
     pub taken-is-used : slot_free s ≡ false → slot_used F s ≡ true
     taken-is-used h = state-is-used (λ e. clash (slot_free s) (blank-is-free e) h)
-
-    pub blank-holder : state_byte s ≡ 0 → slot_holder F s ≡ none
-    unfolding slot_holder
-    blank-holder h = rw (blank-is-free h)
-
-  pub state-holder : (state_byte s ≡ 0 → ⊥) → slot_holder F s ≡ some (slot_name F s)
-  unfolding slot_holder
-  state-holder h = rw (state-not-free s h)
 
   pub taken-holder : slot_free s ≡ false → slot_holder F s ≡ some (slot_name F s)
   unfolding slot_holder
