@@ -1,14 +1,8 @@
-// The lesser of two numbers, and numbers in bytes: little-endian, of as many bytes as asked, and big-endian, of four.
-ghost use Rattle.std.specs.Prelude.{◌≡◌, ◌+◌, ◌*◌, ◌≤◌, ◌<◌, min, length, get_or};
+// Numbers in bytes: little-endian, of as many bytes as asked, and big-endian, of four.
+ghost use Rattle.std.specs.Prelude.{◌≡◌, ◌+◌, ◌*◌, ◌≤◌, length, get_or};
 ghost use Rattle.buffers.specs.Bytes.{le_bytes, le_value, le_at, put_at};
 
 use crate::parts;
-
-pub fn least(a: usize, b: usize) -> usize
-    ensures { result ≡ min a b }
-{
-    if a < b { a } else { b }
-}
 
 // A number that fills the part.
 fn put_le(value: u32, dst: &mut [u8])

@@ -53,21 +53,3 @@ pub fn array<const N: usize>(s: &[u8]) -> [u8; N]
     a.copy_from_slice(s);
     a
 }
-
-pub fn array16(s: &[u8]) -> [u8; 16]
-    requires { length s.now ≡ 16 }
-    ensures { result ≡ s.now }
-{
-    let mut a = [0u8; 16];
-    a.copy_from_slice(s);
-    a
-}
-
-pub fn array8(s: &[u8]) -> [u8; 8]
-    requires { length s.now ≡ 8 }
-    ensures { result ≡ s.now }
-{
-    let mut a = [0u8; 8];
-    a.copy_from_slice(s);
-    a
-}
