@@ -2,195 +2,126 @@
 // trials gave what is expected, of how many, and before that each line that differs; the last line is the verdict.
 #![tactic(auto)]
 
+mod cases;
 mod counter;
 mod fields;
 mod list;
-mod tally;
-mod trials;
 
-ghost use Rattle.std.specs.Prelude.{◌<◌, ◌≤◌};
-ghost use Rattle.io.specs.Counts.{IsPrefixLen};
-
-use buffers::compare::bytes_equal;
-use fields::{named, part, read_bytes};
-use io::print_decimal;
-use std::fs::File;
-use std::io::{Error, ErrorKind, Result};
-use std::os::fd::AsRawFd;
-use std::str;
-use tally::Tally;
+use cases::Case;
+use list::Entry;
 use text::parts::{field, line, line_count};
-
-const STDOUT: i32 = 1;
-
-const STDERR: i32 = 2;
-
-fn print(words: &[u8]) {
-    io::write_all(STDOUT, words);
-}
+use trials::files::load;
+use trials::print;
+use trials::tally::Tally;
 
 fn print_entry(entry: &[u8]) {
-    print(field(entry, 0));
-    print(b" ");
-    print(field(entry, 1));
-    print(b": ");
+    print::text(field(entry, 0));
+    print::text(b" ");
+    print::text(field(entry, 1));
+    print::text(b": ");
 }
 
-// A trial at every step before the end.
-fn run_places(
-    trial: u8,
-    entry: &[u8],
-    text: &[u8],
-    fields: &[u8],
-    index: usize,
-    end: usize,
-    step: usize,
-) -> Tally
-    requires { (end ≤ 161) × (step ≤ 16) × (0 < step) }
-{
-    let mut tally = Tally::zero();
-    let mut at = 0;
-    while at < end {
-        tally = tally.with(trials::passes(trial, entry, text, fields, index, at));
-        at += step;
+// A file or a list that has no rows is one trial that differs.
+fn before(rows: usize) -> Tally {
+    if rows == 0 {
+        Tally::of(false)
+    } else {
+        Tally::default()
+    }
+}
+
+// A line that cannot be read is one trial that differs.
+fn run_fields(entry: Entry, text: &[u8], index: usize) -> Tally {
+    let Some(case) = Case::read(entry, text, index) else {
+        return Tally::of(false);
+    };
+    let mut tally = Tally::default();
+    for place in 0..case.places() {
+        tally += Tally::of(case.passes(place));
     }
     tally
 }
 
-// Each block of the output, or each place where the input can be divided. A line that cannot be read is one trial that differs.
-fn run_fields(trial: u8, entry: &[u8], text: &[u8], fields: &[u8], index: usize) -> Tally {
-    if !list::is_readable(trial, entry, fields, index) {
-        return Tally::failed();
-    }
-    if list::is_divided(trial) {
-        let input = read_bytes(named(entry, list::INPUT, fields));
-        run_places(trial, entry, text, fields, index, input.size + 1, 1)
-    } else {
-        let output = read_bytes(named(entry, list::OUTPUT, fields));
-        run_places(trial, entry, text, fields, index, output.size, 16)
-    }
-}
-
 // The line at an index, counted from 0 after the header.
-fn run_line(trial: u8, entry: &[u8], text: &[u8], index: usize) -> Tally {
-    let number = std::num::wrapping_add_usize(index, 1);
-    let tally = run_fields(trial, entry, text, line(text, number), index);
-    if tally.passed != tally.tried {
-        print_entry(entry);
-        print(b"line ");
-        print_decimal(STDOUT, std::num::wrapping_add_u64(number as u64, 1));
-        print(b" differs\n");
+fn run_line(words: &[u8], entry: Entry, text: &[u8], index: usize) -> Tally {
+    let tally = run_fields(entry, text, index);
+    if !tally.all_passed() {
+        print_entry(words);
+        print::text(b"line ");
+        print::number((index as u64).wrapping_add(2));
+        print::text(b" differs\n");
     }
     tally
 }
 
 // How many lines stand after the one that names the columns.
 fn rows(text: &[u8]) -> usize {
-    let lines = line_count(text);
-    if lines < 1 {
-        return 0;
-    }
-    if bytes_equal(part(text, 0, 2), b"# ") {
-        lines - 1
+    if text.starts_with(b"# ") {
+        line_count(text).saturating_sub(1)
     } else {
         0
     }
 }
 
-fn run_lines(entry: &[u8], text: &[u8]) -> Tally {
-    let trial = list::trial_of(entry);
-    let end = rows(text);
-    let mut tally = Tally::before(end);
-    let mut index = 0;
-    while index < end {
-        tally = tally.plus(run_line(trial, entry, text, index));
-        index += 1;
+fn run_lines(words: &[u8], entry: Entry, text: &[u8]) -> Tally {
+    let rows = rows(text);
+    let mut tally = before(rows);
+    for index in 0..rows {
+        tally += run_line(words, entry, text, index);
     }
     tally
 }
 
-fn open(rt: &HostRuntime, path: &[u8]) -> Result<File> {
-    match str::from_utf8(path) {
-        Ok(name) => File::open(rt, name),
-        Err(_) => Err(Error::from(ErrorKind::InvalidFilename)),
-    }
-}
-
-// Says on standard error why a file cannot be opened.
-fn fail(rt: &HostRuntime, path: &[u8], why: Error) {
-    io::write_all(STDERR, path);
-    io::write_all(STDERR, b": ");
-    let _ = rt.eprintln(why);
-}
-
-// Puts a file's bytes at the start of buf, and answers how many: 0 where it cannot be opened or does not fit.
-fn load(rt: &HostRuntime, path: &[u8], buf: &mut [u8]) -> usize
-    ensures { IsPrefixLen result buf.new }
-{
-    let file = match open(rt, path) {
-        Ok(file) => file,
-        Err(why) => {
-            fail(rt, path, why);
-            return 0;
-        }
+// An entry that cannot be read is one trial that differs, and so is a file that cannot be opened or fills the buffer.
+fn run_file(rt: &HostRuntime, words: &[u8]) -> Tally {
+    let Some(entry) = Entry::read(words) else {
+        return Tally::of(false);
     };
-    let n = io::read_full(file.as_raw_fd(), buf);
-    if n == buf.len() {
-        return 0;
-    }
-    n
-}
-
-// An entry that cannot be read is one trial that differs, as a file is.
-fn run_file(rt: &HostRuntime, entry: &[u8]) -> Tally {
-    if !list::is_entry(entry) {
-        return Tally::failed();
-    }
     let mut buf = io::large_buffer();
-    let n = load(rt, field(entry, 0), &mut buf);
-    run_lines(entry, &buf[..n])
+    match load(rt, entry.file, &mut buf) {
+        Some(n) if n < buf.len() => run_lines(words, entry, &buf[..n]),
+        _ => Tally::of(false),
+    }
 }
 
-fn run_entry(rt: &HostRuntime, entry: &[u8]) -> Tally {
-    let tally = run_file(rt, entry);
-    print_entry(entry);
-    print_decimal(STDOUT, tally.passed);
-    print(b" of ");
-    print_decimal(STDOUT, tally.tried);
-    print(b"\n");
+fn run_entry(rt: &HostRuntime, words: &[u8]) -> Tally {
+    let tally = run_file(rt, words);
+    print_entry(words);
+    print::number(tally.passed);
+    print::text(b" of ");
+    print::number(tally.tried);
+    print::text(b"\n");
     tally
 }
 
 fn run_list(rt: &HostRuntime, list: &[u8]) -> Tally {
-    let end = rows(list);
-    let mut tally = Tally::before(end);
-    let mut k = 0;
-    while k < end {
-        k += 1;
-        tally = tally.plus(run_entry(rt, line(list, k)));
+    let rows = rows(list);
+    let mut tally = before(rows);
+    for k in 0..rows {
+        tally += run_entry(rt, line(list, k.wrapping_add(1)));
     }
     tally
 }
 
 fn print_verdict(tally: Tally) {
-    print(b"vectors: ");
-    if tally.passed == tally.tried {
-        print(b"all ");
-        print_decimal(STDOUT, tally.tried);
-        print(b" trials as expected\n");
-        return;
+    print::text(b"vectors: ");
+    if tally.all_passed() {
+        print::text(b"all ");
+        print::number(tally.tried);
+        print::text(b" trials as expected\n");
+    } else {
+        print::number(tally.failed());
+        print::text(b" of ");
+        print::number(tally.tried);
+        print::text(b" trials differ\n");
     }
-    print_decimal(
-        STDOUT,
-        std::num::wrapping_sub_u64(tally.tried, tally.passed),
-    );
-    print(b" of ");
-    print_decimal(STDOUT, tally.tried);
-    print(b" trials differ\n");
 }
 
 fn main(rt: HostRuntime) {
     let mut buf = io::buffer();
-    let n = load(&rt, b"trials.tsv", &mut buf);
-    print_verdict(run_list(&rt, &buf[..n]));
+    let total = match load(&rt, b"trials.tsv", &mut buf) {
+        Some(n) if n < buf.len() => run_list(&rt, &buf[..n]),
+        _ => Tally::of(false),
+    };
+    print_verdict(total);
 }
