@@ -2,143 +2,150 @@
 use crate::areas::{front, span};
 use crate::print;
 use crate::values::read_bytes;
-use buffers::compare::bytes_equal;
-use std::num::wrapping_add_usize;
 use text::decimal::parse_decimal;
 use text::parts::field;
 
-// Up to three numbers, and up to three runs of bytes, which stand one behind the other in a buffer beside it. Not `ok` is a line that cannot be read or carried
-// out; `refused`, a call whose status, the first number, is not 0; `changed`, one that was refused and yet changed card or chip.
+// How a call went: it was done, refused, or refused and yet changed card or chip.
+#[derive(Clone, Copy, PartialEq, Eq)]
+pub enum Outcome {
+    Done,
+    Refused,
+    Changed,
+}
+
+// Up to three numbers, and up to three runs of bytes, which stand one behind the other in a buffer beside it.
 #[derive(Clone, Copy)]
 pub struct Answer {
-    pub ok: bool,
-    pub refused: bool,
-    pub changed: bool,
-    pub numbers: usize,
-    pub values: [u64; 3],
-    pub runs: usize,
-    pub counts: [usize; 3],
+    pub outcome: Outcome,
+    pub numbers: [Option<u64>; 3],
+    pub runs: [Option<usize>; 3],
+}
+
+// The first three of some things.
+fn three<T: Copy>(all: &[T]) -> [Option<T>; 3] {
+    [
+        all.first().copied(),
+        all.get(1).copied(),
+        all.get(2).copied(),
+    ]
+}
+
+fn count<T: Copy>(all: &[Option<T>; 3]) -> usize {
+    all.iter().flatten().count()
 }
 
 impl Answer {
-    pub fn of(numbers: usize, a: u64, b: u64, c: u64) -> Self {
+    pub fn of(numbers: &[u64]) -> Self {
         Answer {
-            ok: true,
-            refused: false,
-            changed: false,
-            numbers,
-            values: [a, b, c],
-            runs: 0,
-            counts: [0; 3],
+            outcome: Outcome::Done,
+            numbers: three(numbers),
+            runs: [None; 3],
         }
     }
 
-    pub fn unreadable() -> Self {
-        let mut answer = Answer::of(0, 0, 0, 0);
-        answer.ok = false;
-        answer
+    // Of a call: its status, and the numbers beside it.
+    pub fn call(status: u64, others: &[u64]) -> Self {
+        Answer {
+            outcome: if status == 0 {
+                Outcome::Done
+            } else {
+                Outcome::Refused
+            },
+            numbers: [
+                Some(status),
+                others.first().copied(),
+                others.get(1).copied(),
+            ],
+            runs: [None; 3],
+        }
     }
 
-    // Of a call: the first number is its status.
-    pub fn call(numbers: usize, status: u64, b: u64, c: u64) -> Self {
-        let mut answer = Answer::of(numbers, status, b, c);
-        answer.refused = status != 0;
-        answer
-    }
-
-    // Whether card or chip is another than before.
+    // Of a call that left card and chip as another than before, or not.
     pub fn and_changed(self, changed: bool) -> Self {
-        let mut more = self;
-        more.changed = changed && self.refused;
-        more
+        match self.outcome {
+            Outcome::Refused if changed => Answer {
+                outcome: Outcome::Changed,
+                ..self
+            },
+            _ => self,
+        }
     }
 
-    // With a run of bytes besides.
-    pub fn and_bytes(self, count: usize) -> Self {
-        let mut counts = self.counts;
-        counts[self.runs % 3] = count;
-        let mut more = self;
-        more.runs = wrapping_add_usize(self.runs, 1);
-        more.counts = counts;
-        more
+    // With runs of bytes.
+    pub fn and_bytes(self, counts: &[usize]) -> Self {
+        Answer {
+            runs: three(counts),
+            ..self
+        }
+    }
+
+    // The first number.
+    pub fn status(self) -> u64 {
+        self.numbers[0].unwrap_or(0)
+    }
+
+    // Whether the numbers stand in the fields from k on.
+    fn numbers_match(&self, line: &[u8], k: usize) -> bool {
+        self.numbers.iter().flatten().enumerate().all(|(i, n)| parse_decimal(
+            field(line, k.wrapping_add(i)),
+            u64::MAX,
+        ) == Some(*n))
+    }
+
+    // Whether the runs of bytes stand in the fields from k on.
+    fn runs_match(&self, line: &[u8], k: usize, out: &[u8]) -> bool {
+        let mut at = 0usize;
+        for (i, n) in self.runs.iter().flatten().enumerate() {
+            if !stands(field(line, k.wrapping_add(i)), span(out, at, *n)) {
+                return false;
+            }
+            at = at.wrapping_add(*n);
+        }
+        true
+    }
+
+    // Whether the fields from k on, up to the last, are just the answer: its numbers, and behind them its bytes.
+    pub fn matches(&self, line: &[u8], k: usize, fields: usize, out: &[u8]) -> bool {
+        let end = k.wrapping_add(count(&self.numbers));
+        self.outcome != Outcome::Changed
+            && fields == end.wrapping_add(count(&self.runs))
+            && self.numbers_match(line, k)
+            && self.runs_match(line, end, out)
+    }
+
+    // As the line would have to say it.
+    pub fn print(&self, out: &[u8]) {
+        if self.outcome == Outcome::Changed {
+            print::text(b"refused, and changed card or chip: ");
+        }
+        print::text(b"answered");
+        self.print_numbers();
+        self.print_runs(out);
+        print::text(b"\n");
+    }
+
+    fn print_numbers(&self) {
+        for n in self.numbers.iter().flatten() {
+            print::text(b"\t");
+            print::number(*n);
+        }
+    }
+
+    fn print_runs(&self, out: &[u8]) {
+        let mut at = 0usize;
+        for n in self.runs.iter().flatten() {
+            print::text(b"\t");
+            print::bytes(span(out, at, *n));
+            at = at.wrapping_add(*n);
+        }
     }
 }
 
-// Whether number i stands in field k + i, where there is such a number.
-fn number_matches(line: &[u8], k: usize, answer: Answer, i: usize) -> bool {
-    if answer.numbers <= i {
-        return true;
-    }
-    let expected = parse_decimal(field(line, wrapping_add_usize(k, i)), 18446744073709551615);
-    expected.ok && expected.value == answer.values[i % 3]
-}
-
-// Where run i of the bytes begins.
-fn run_at(answer: Answer, i: usize) -> usize {
-    match i {
-        0 => 0,
-        1 => answer.counts[0],
-        _ => wrapping_add_usize(answer.counts[0], answer.counts[1]),
-    }
-}
-
-// Run i of the bytes.
-fn run(answer: Answer, i: usize, out: &[u8]) -> &[u8] {
-    span(out, run_at(answer, i), answer.counts[i % 3])
-}
-
-// Whether run i of the bytes, where there is one, stands in field k + i.
-fn bytes_match(line: &[u8], k: usize, answer: Answer, i: usize, out: &[u8]) -> bool {
-    if answer.runs <= i {
-        return true;
-    }
+// Whether a field has just these bytes.
+fn stands(f: &[u8], bytes: &[u8]) -> bool {
     let mut expected = [0u8; 1024];
-    let read = read_bytes(field(line, wrapping_add_usize(k, i)), &mut expected);
-    read.ok && bytes_equal(front(&expected, read.count), run(answer, i, out))
-}
-
-// Whether the fields from k on, up to the last, are just the answer: its numbers, and behind them its bytes.
-pub fn matches(line: &[u8], k: usize, fields: usize, answer: Answer, out: &[u8]) -> bool {
-    let end = wrapping_add_usize(k, answer.numbers);
-    answer.ok
-        && !answer.changed
-        && fields == wrapping_add_usize(end, answer.runs)
-        && number_matches(line, k, answer, 0)
-        && number_matches(line, k, answer, 1)
-        && number_matches(line, k, answer, 2)
-        && bytes_match(line, end, answer, 0, out)
-        && bytes_match(line, end, answer, 1, out)
-        && bytes_match(line, end, answer, 2, out)
-}
-
-fn print_number(answer: Answer, i: usize) {
-    if i < answer.numbers {
-        print::text(b"\t");
-        print::number(answer.values[i % 3]);
+    match read_bytes(f, &mut expected) {
+        Ok(n) => front(&expected, n) == bytes,
+        Err(_) => false,
     }
-}
-
-fn print_run(answer: Answer, i: usize, out: &[u8]) {
-    if i < answer.runs {
-        print::text(b"\t");
-        print::bytes(run(answer, i, out));
-    }
-}
-
-// As the line would have to say it.
-pub fn print_answer(answer: Answer, out: &[u8]) {
-    if !answer.ok {
-        return print::text(b"cannot be read or carried out\n");
-    }
-    if answer.changed {
-        print::text(b"refused, and changed card or chip: ");
-    }
-    print::text(b"answered");
-    print_number(answer, 0);
-    print_number(answer, 1);
-    print_number(answer, 2);
-    print_run(answer, 0, out);
-    print_run(answer, 1, out);
-    print_run(answer, 2, out);
-    print::text(b"\n");
 }

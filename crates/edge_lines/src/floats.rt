@@ -1,12 +1,4 @@
 // 32-bit floats as a line writes them: four bytes of bits for each, little-endian.
-use crate::areas::{put, span};
-use buffers::numbers::{le_at, put_le_at};
-use std::num::wrapping_add_usize;
-
-// The first n floats.
-pub fn front(s: &[f32], n: usize) -> &[f32] {
-    if n <= s.len() { &s[0..n] } else { s }
-}
 
 // How many bytes n floats have.
 pub fn size(n: usize) -> usize {
@@ -29,34 +21,20 @@ fn bits_of(x: f32) -> u32 {
     0x7fc00000
 }
 
-// The float that stands i floats behind the first.
-fn float_at(s: &[u8], i: usize) -> f32 {
-    let mut bytes = [0u8; 4];
-    put(&mut bytes, 0, span(s, size(i), 4));
-    float_of(le_at(&bytes, 0, 4))
-}
-
-// As many floats as there is room for; zeros where the bytes end.
+// As many floats as there are bytes and room for.
 pub fn read_floats(s: &[u8], out: &mut [f32]) {
-    let mut i = 0;
-    while i < out.len() {
-        out[i] = float_at(s, i);
-        i += 1;
+    let (floats, _) = s.as_chunks::<4>();
+    for (x, bytes) in out.iter_mut().zip(floats) {
+        *x = float_of(u32::from_le_bytes(*bytes));
     }
 }
 
-// Writes the bytes of one float from an index on.
-fn put_float(out: &mut [u8], at: usize, x: f32) {
-    let mut bytes = [0u8; 4];
-    put_le_at(bits_of(x), &mut bytes, 0, 4);
-    put(out, at, &bytes);
-}
-
-// Writes the bytes of floats from an index on.
+// Writes the bytes of floats from an index on, where they have room.
 pub fn put_floats(out: &mut [u8], at: usize, s: &[f32]) {
-    let mut i = 0;
-    while i < s.len() {
-        put_float(out, wrapping_add_usize(at, size(i)), s[i]);
-        i += 1;
+    if let Some(rest) = out.get_mut(at..) {
+        let (places, _) = rest.as_chunks_mut::<4>();
+        for (place, x) in places.iter_mut().zip(s) {
+            *place = bits_of(*x).to_le_bytes();
+        }
     }
 }

@@ -4,10 +4,9 @@
 pub mod answer;
 pub mod areas;
 pub mod args;
+pub mod bench;
 pub mod floats;
-pub mod memory;
+pub mod place;
 pub mod print;
-pub mod state;
-pub mod tally;
 pub mod values;
 pub mod words;

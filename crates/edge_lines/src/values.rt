@@ -1,142 +1,106 @@
 // Bytes as a line writes them (docs/EDGES.md).
-use crate::areas::{byte_at, front, part, put};
-use buffers::compare::bytes_equal;
-use std::num::wrapping_add_usize;
-use text::hex::Coded;
+use crate::areas::{front, put};
+use text::decimal::parse_decimal;
+use text::hex::decode_hex;
 
-// How far a text was read, and a number that it gave: of bytes, or of times.
-#[derive(Clone, Copy)]
-struct Read {
-    ok: bool,
-    at: usize,
-    count: usize,
-}
+// What is left to read of a text.
+#[derive(Drop)]
+struct Rest<'a>(&'a [u8]);
 
-// The first index from one on at which one of two bytes stands, or the end.
-fn run_end(s: &[u8], from: usize, stop: u8, other: u8) -> usize {
-    let mut i = from;
-    while i < s.len() {
-        if s[i] == stop {
-            return i;
+impl<'a> Rest<'a> {
+    // The bytes before the first of some others, or all.
+    fn before(&mut self, stops: &[u8]) -> &'a [u8] {
+        let s = self.0;
+        let end = s.iter().position(|b| stops.contains(b)).unwrap_or(s.len());
+        let (front, rest) = s.split_at(end);
+        self.0 = rest;
+        front
+    }
+
+    // Whether a byte stands next, which is then read.
+    fn eats(&mut self, byte: u8) -> bool {
+        match self.0.split_first() {
+            Some((first, rest)) if *first == byte => {
+                self.0 = rest;
+                true
+            }
+            _ => false,
         }
-        if s[i] == other {
-            return i;
+    }
+
+    // What is repeated: text up to the quote that ends it, or hex.
+    fn unit(&mut self, unit: &mut [u8]) -> Result<usize, usize> {
+        if self.eats(b'"') {
+            let text = self.before(b"\"");
+            let fits = put(unit, 0, text);
+            counted(self.eats(b'"') && fits, text.len())
+        } else {
+            let n = decode_hex(self.before(b" *"), unit).unwrap_or(0);
+            counted(0 < n, n)
         }
-        i += 1;
     }
-    i
-}
 
-// Text up to the quote that ends it.
-fn quoted(s: &[u8], at: usize, unit: &mut [u8]) -> Read {
-    let end = run_end(s, at, b'"', b'"');
-    let text = part(s, at, end);
-    let fits = put(unit, 0, text);
-    Read {
-        ok: fits && end < s.len(),
-        at: wrapping_add_usize(end, 1),
-        count: text.len(),
+    // How often: as many times as stand behind a star, or once.
+    fn times(&mut self) -> Option<usize> {
+        if !self.eats(b'*') {
+            return Some(1);
+        }
+        parse_decimal(self.before(b" "), 65535).map(|n| n as usize)
     }
-}
 
-fn hex_run(s: &[u8], at: usize, unit: &mut [u8]) -> Read {
-    let end = run_end(s, at, b' ', b'*');
-    let coded = text::hex::decode_hex(part(s, at, end), unit);
-    Read {
-        ok: coded.ok && 0 < coded.count,
-        at: end,
-        count: coded.count,
+    // A piece ends with the text, or with a space before the next.
+    fn ends_piece(&mut self) -> bool {
+        let ends = matches!(self.0, [] | [b' ', _, ..]);
+        self.eats(b' ');
+        ends
     }
-}
 
-// What is repeated: text in quotes, or hex.
-fn unit_at(s: &[u8], at: usize, unit: &mut [u8]) -> Read {
-    if byte_at(s, at) == b'"' {
-        quoted(s, wrapping_add_usize(at, 1), unit)
-    } else {
-        hex_run(s, at, unit)
+    // One piece more, behind the bytes that are there.
+    fn piece(&mut self, out: &mut [u8], count: usize) -> Result<usize, usize> {
+        let mut unit = [0u8; 1024];
+        let one = self.unit(&mut unit);
+        let times = self.times();
+        let bytes = front(&unit, some(one));
+        let all = put_times(bytes, times.unwrap_or(0), out, count);
+        let ok = one.is_ok() && times.is_some() && all.is_ok() && self.ends_piece();
+        counted(ok, some(all))
     }
 }
 
-// How often: as many times as stand behind a star, or once.
-fn times_at(s: &[u8], at: usize) -> Read {
-    if byte_at(s, at) != b'*' {
-        return Read {
-            ok: true,
-            at,
-            count: 1,
-        };
-    }
-    let from = wrapping_add_usize(at, 1);
-    let end = run_end(s, from, b' ', b' ');
-    let times = text::decimal::parse_decimal(part(s, from, end), 65535);
-    Read {
-        ok: times.ok,
-        at: end,
-        count: (times.value % 65536) as usize,
-    }
+fn counted(ok: bool, count: usize) -> Result<usize, usize> {
+    if ok { Ok(count) } else { Err(count) }
 }
 
-// A piece ends with the text, or with a space before the next.
-fn piece_ends(s: &[u8], at: usize) -> bool {
-    s.len() <= at || (byte_at(s, at) == b' ' && wrapping_add_usize(at, 1) < s.len())
+// How many bytes were read, of a text that can be read or not.
+pub fn some(read: Result<usize, usize>) -> usize {
+    read.unwrap_or_else(|count| count)
 }
 
-fn put_times(unit: &[u8], times: usize, out: &mut [u8], count: usize) -> Read {
-    let mut all = true;
+fn put_times(unit: &[u8], times: usize, out: &mut [u8], count: usize) -> Result<usize, usize> {
+    let mut fits = true;
     let mut to = count;
-    let mut i = 0;
-    while i < times {
-        let fits = put(out, to, unit);
-        all = all && fits;
-        to = wrapping_add_usize(to, unit.len());
-        i += 1;
+    for _ in 0..times {
+        fits = put(out, to, unit) && fits;
+        to = to.wrapping_add(unit.len());
     }
-    Read {
-        ok: all,
-        at: 0,
-        count: to,
-    }
+    counted(fits, to)
 }
 
-// One piece more, behind the bytes that are there.
-fn piece(s: &[u8], read: Read, out: &mut [u8]) -> Read {
-    if !read.ok || s.len() <= read.at {
-        return read;
+// How many bytes; of a text that cannot be read, how many it gave before, since a line that prepares goes on with these.
+pub fn read_bytes(s: &[u8], out: &mut [u8]) -> Result<usize, usize> {
+    if matches!(s, b"-") {
+        return Ok(0);
     }
-    let mut unit = [0u8; 1024];
-    let one = unit_at(s, read.at, &mut unit);
-    let times = times_at(s, one.at);
-    let all = put_times(front(&unit, one.count), times.count, out, read.count);
-    Read {
-        ok: one.ok && times.ok && all.ok && piece_ends(s, times.at),
-        at: wrapping_add_usize(times.at, 1),
-        count: all.count,
+    if s.is_empty() {
+        return Err(0);
     }
-}
-
-// Every piece has a byte at the least, so that as many turns as bytes are enough.
-fn pieces(s: &[u8], out: &mut [u8]) -> Coded {
-    let mut read = Read {
-        ok: true,
-        at: 0,
-        count: 0,
-    };
-    let mut i = 0;
-    while i < s.len() {
-        read = piece(s, read, out);
-        i += 1;
+    let mut rest = Rest(s);
+    let mut count = 0;
+    // Every piece has a byte at the least, so that as many turns as bytes are enough.
+    for _ in 0..s.len() {
+        if !rest.0.is_empty() {
+            count = rest.piece(out, count)?;
+        }
     }
-    Coded {
-        ok: read.ok && 0 < s.len(),
-        count: read.count,
-    }
-}
-
-pub fn read_bytes(s: &[u8], out: &mut [u8]) -> Coded {
-    if bytes_equal(s, b"-") {
-        Coded { ok: true, count: 0 }
-    } else {
-        pieces(s, out)
-    }
+    Ok(count)
 }

@@ -1,50 +1,32 @@
 // The words that a line begins with, and what each takes.
-use crate::areas::byte_at;
-use buffers::compare::bytes_equal;
-use text::parts::part;
+use crate::bench::{ATTRIBUTES, HANDLE, IV, KEY, LENT, NAME, STAGING};
 
-// A word, `=` where it answers, and the kind of each argument. Bytes are `b`, or `k`, `i`, `a`, `h` and `s` for the device key, the IV, the attributes, the
-// handle and the staging buffer, `f` for floats and `z` for the name that is tried; a number is `n`, one of 32 bits `u`; card or chip `p`, any place `q`; the
-// buffer that a call is lent `o`; what the word reads itself `x`.
-const WORDS: [u8; 339] = *b"slots .nn;\
-    card .x;\
-    chip .x;\
-    key .k;\
-    iv .i;\
-    attributes .a;\
-    handle .h;\
-    staging .s;\
-    poke .qnb;\
-    flip .qnb;\
-    keep .n;\
-    put .pn;\
-    say .x;\
-    set =bub;\
-    get =bno;\
-    info =b;\
-    remove =b;\
-    reset =;\
-    next =bno;\
-    save =ubu;\
-    load =uo;\
-    format =bo;\
-    start =bun;\
-    add =b;\
-    finalize =;\
-    store_mix =bub;\
-    find_mix =no;\
-    encode_mix =nbffo;\
-    decode_mix =b;\
-    at =qn;\
-    same =n;\
-    fill =nub;\
-    bits =pnnxz;\
-    each =pnnnxz";
-
-const COUNT: usize = 34;
-
+// What an argument is, and where its bytes go.
 #[derive(Clone, Copy)]
-pub enum Word {
+pub enum Kind {
+    // bytes, to the register of the argument's own number
+    Bytes,
+    // bytes, to this register
+    BytesAt(usize),
+    // bytes, four for each float, to the register of the argument's own number
+    Floats,
+    // a number of at most so much
+    Number(u64),
+    // card or chip
+    Medium,
+    Place,
+    // what the word reads itself
+    Own,
+}
+
+const NUMBER: Kind = Kind::Number(u64::MAX);
+
+// Flags, and identifiers of keys.
+const FLAGS: Kind = Kind::Number(4294967295);
+
+// The words that prepare.
+#[derive(Clone, Copy)]
+pub enum Setup {
     Slots,
     Card,
     Chip,
@@ -58,6 +40,11 @@ pub enum Word {
     Keep,
     Put,
     Say,
+}
+
+// The calls.
+#[derive(Clone, Copy)]
+pub enum Call {
     Set,
     Get,
     Info,
@@ -74,80 +61,153 @@ pub enum Word {
     FindMix,
     EncodeMix,
     DecodeMix,
+}
+
+#[derive(Clone, Copy)]
+pub enum Word {
+    Setup(Setup),
+    Call(Call),
     At,
     Same,
     Fill,
     Bits,
     Each,
-    Unknown,
 }
 
-// Where a word stands among all, or past the last.
-pub fn index_of(name: &[u8]) -> usize {
-    let words = WORDS;
-    let mut i = 0;
-    while i < COUNT {
-        if bytes_equal(part(part(&words, b';', i), b' ', 0), name) {
-            return i;
-        }
-        i += 1;
+// A word and what it takes.
+#[derive(Clone, Copy)]
+pub struct Row {
+    pub word: Word,
+    pub kinds: &'static [Kind],
+}
+
+const WORDS: [(&[u8], Word, &[Kind]); 34] = [
+    (b"slots", Word::Setup(Setup::Slots), &[NUMBER, NUMBER]),
+    (b"card", Word::Setup(Setup::Card), &[Kind::Own]),
+    (b"chip", Word::Setup(Setup::Chip), &[Kind::Own]),
+    (b"key", Word::Setup(Setup::Key), &[Kind::BytesAt(KEY)]),
+    (b"iv", Word::Setup(Setup::Iv), &[Kind::BytesAt(IV)]),
+    (
+        b"attributes",
+        Word::Setup(Setup::Attributes),
+        &[Kind::BytesAt(ATTRIBUTES)],
+    ),
+    (
+        b"handle",
+        Word::Setup(Setup::Handle),
+        &[Kind::BytesAt(HANDLE)],
+    ),
+    (
+        b"staging",
+        Word::Setup(Setup::Staging),
+        &[Kind::BytesAt(STAGING)],
+    ),
+    (
+        b"poke",
+        Word::Setup(Setup::Poke),
+        &[Kind::Place, NUMBER, Kind::Bytes],
+    ),
+    (
+        b"flip",
+        Word::Setup(Setup::Flip),
+        &[Kind::Place, NUMBER, Kind::Bytes],
+    ),
+    (b"keep", Word::Setup(Setup::Keep), &[NUMBER]),
+    (b"put", Word::Setup(Setup::Put), &[Kind::Medium, NUMBER]),
+    (b"say", Word::Setup(Setup::Say), &[Kind::Own]),
+    (
+        b"set",
+        Word::Call(Call::Set),
+        &[Kind::Bytes, FLAGS, Kind::Bytes],
+    ),
+    (
+        b"get",
+        Word::Call(Call::Get),
+        &[Kind::Bytes, NUMBER, Kind::BytesAt(LENT)],
+    ),
+    (b"info", Word::Call(Call::Info), &[Kind::Bytes]),
+    (b"remove", Word::Call(Call::Remove), &[Kind::Bytes]),
+    (b"reset", Word::Call(Call::Reset), &[]),
+    (
+        b"next",
+        Word::Call(Call::Next),
+        &[Kind::Bytes, NUMBER, Kind::BytesAt(LENT)],
+    ),
+    (
+        b"save",
+        Word::Call(Call::Save),
+        &[FLAGS, Kind::Bytes, FLAGS],
+    ),
+    (
+        b"load",
+        Word::Call(Call::Load),
+        &[FLAGS, Kind::BytesAt(LENT)],
+    ),
+    (
+        b"format",
+        Word::Call(Call::Format),
+        &[Kind::Bytes, Kind::BytesAt(LENT)],
+    ),
+    (
+        b"start",
+        Word::Call(Call::Start),
+        &[Kind::Bytes, FLAGS, NUMBER],
+    ),
+    (b"add", Word::Call(Call::Add), &[Kind::Bytes]),
+    (b"finalize", Word::Call(Call::Finalize), &[]),
+    (
+        b"store_mix",
+        Word::Call(Call::StoreMix),
+        &[Kind::Bytes, FLAGS, Kind::Bytes],
+    ),
+    (
+        b"find_mix",
+        Word::Call(Call::FindMix),
+        &[NUMBER, Kind::BytesAt(LENT)],
+    ),
+    (
+        b"encode_mix",
+        Word::Call(Call::EncodeMix),
+        &[
+            NUMBER,
+            Kind::Bytes,
+            Kind::Floats,
+            Kind::Floats,
+            Kind::BytesAt(LENT),
+        ],
+    ),
+    (b"decode_mix", Word::Call(Call::DecodeMix), &[Kind::Bytes]),
+    (b"at", Word::At, &[Kind::Place, NUMBER]),
+    (b"same", Word::Same, &[NUMBER]),
+    (b"fill", Word::Fill, &[NUMBER, FLAGS, Kind::Bytes]),
+    (
+        b"bits",
+        Word::Bits,
+        &[Kind::Medium, NUMBER, NUMBER, Kind::Own, Kind::BytesAt(NAME)],
+    ),
+    (
+        b"each",
+        Word::Each,
+        &[
+            Kind::Medium,
+            NUMBER,
+            NUMBER,
+            NUMBER,
+            Kind::Own,
+            Kind::BytesAt(NAME),
+        ],
+    ),
+];
+
+impl Row {
+    pub fn of(name: &[u8]) -> Option<Row> {
+        let words = WORDS;
+        let (_, word, kinds) = words.iter().find(|row| row.0 == name).copied()?;
+        Some(Row { word, kinds })
     }
-    i
-}
 
-// Whether it answers (`=`), or one argument's kind, counted from 1.
-pub fn kind(index: usize, i: usize) -> u8 {
-    let words = WORDS;
-    byte_at(part(part(&words, b';', index), b' ', 1), i)
-}
-
-// The field behind the arguments.
-pub fn end(index: usize) -> usize {
-    let words = WORDS;
-    part(part(&words, b';', index), b' ', 1).len()
-}
-
-pub fn preparing(index: usize) -> Word {
-    match index {
-        0 => Word::Slots,
-        1 => Word::Card,
-        2 => Word::Chip,
-        3 => Word::Key,
-        4 => Word::Iv,
-        5 => Word::Attributes,
-        6 => Word::Handle,
-        7 => Word::Staging,
-        8 => Word::Poke,
-        9 => Word::Flip,
-        10 => Word::Keep,
-        11 => Word::Put,
-        _ => Word::Say,
-    }
-}
-
-pub fn answering(index: usize) -> Word {
-    match index {
-        13 => Word::Set,
-        14 => Word::Get,
-        15 => Word::Info,
-        16 => Word::Remove,
-        17 => Word::Reset,
-        18 => Word::Next,
-        19 => Word::Save,
-        20 => Word::Load,
-        21 => Word::Format,
-        22 => Word::Start,
-        23 => Word::Add,
-        24 => Word::Finalize,
-        25 => Word::StoreMix,
-        26 => Word::FindMix,
-        27 => Word::EncodeMix,
-        28 => Word::DecodeMix,
-        29 => Word::At,
-        30 => Word::Same,
-        31 => Word::Fill,
-        32 => Word::Bits,
-        33 => Word::Each,
-        _ => Word::Unknown,
+    // The field behind the arguments.
+    pub fn end(self) -> usize {
+        self.kinds.len() + 1
     }
 }

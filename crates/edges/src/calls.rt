@@ -1,34 +1,21 @@
 // The calls, on the card, chip, key, IV, handle and staging buffer that last, with a line's arguments. What a call may write is lent as a copy, and put back.
-use buffers::compare::bytes_equal;
 use buffers::numbers::le_at;
 use edge_lines::answer::Answer;
-use edge_lines::areas::{front, front_mut, put, span};
+use edge_lines::areas::{front_mut, put};
 use edge_lines::args::Args;
-use edge_lines::memory;
-use edge_lines::memory::{CHIP, MEDIA, reg};
-use edge_lines::state::Env;
-use edge_lines::words::Word;
+use edge_lines::bench::{ATTRIBUTES, Bench, CHIP, HANDLE, LENT, STAGING};
+use edge_lines::place::Place;
+use edge_lines::words::Call;
+use edge_mixes::answered;
 use keys::key_file::KeyAttributes;
-use store::answers::Got;
+use spec::incremental::IncSetHandle;
 use store::handle::{decode_handle, encode_handle};
-use store::incremental::SetProgress;
-
-fn narrow(n: usize) -> u32 {
-    (n % 4294967296) as u32
-}
-
-fn wide(n: u32) -> u64 {
-    n as u64
-}
-
-fn wide_size(n: usize) -> u64 {
-    n as u64
-}
+use store::incremental::zero_handle;
+use store::status::Refusal;
 
 // As a key file has them.
-fn attributes(mem: &[u8]) -> KeyAttributes {
-    let mut bytes = [0u8; 20];
-    put(&mut bytes, 0, reg(mem, memory::ATTRIBUTES, 20));
+fn attributes(bench: &Bench) -> KeyAttributes {
+    let bytes = bench.first::<20>(ATTRIBUTES);
     KeyAttributes {
         lifetime: le_at(&bytes, 0, 4),
         key_type: le_at(&bytes, 4, 4),
@@ -38,208 +25,194 @@ fn attributes(mem: &[u8]) -> KeyAttributes {
     }
 }
 
-fn set(args: Args, env: Env, mem: &[u8], kv: &mut [u8], rbp: &mut [u8]) -> u32 {
+fn set(args: Args, bench: &Bench, kv: &mut [u8], rbp: &mut [u8]) -> Result<(), Refusal> {
     store::set::set(
         kv,
         rbp,
-        reg(mem, memory::KEY, env.key),
-        reg(mem, 0, args.values[0]),
-        narrow(args.values[1]),
-        reg(mem, memory::IV, env.iv),
-        reg(mem, 2, args.values[2]),
+        bench.key(),
+        bench.arg(args, 0),
+        args.narrow(1),
+        bench.iv(),
+        bench.arg(args, 2),
     )
 }
 
-fn save(args: Args, env: Env, mem: &[u8], kv: &mut [u8], rbp: &mut [u8]) -> u32 {
+fn save(args: Args, bench: &Bench, kv: &mut [u8], rbp: &mut [u8]) -> Result<(), Refusal> {
     keys::persist::save_persistent_key(
         kv,
         rbp,
-        reg(mem, memory::KEY, env.key),
-        narrow(args.values[0]),
-        attributes(mem),
-        reg(mem, 1, args.values[1]),
-        narrow(args.values[2]),
-        reg(mem, memory::IV, env.iv),
+        bench.key(),
+        args.narrow(0),
+        attributes(bench),
+        bench.arg(args, 1),
+        args.narrow(2),
+        bench.iv(),
     )
 }
 
-fn handle_bytes(mem: &[u8]) -> [u8; 88] {
-    let mut bytes = [0u8; 88];
-    put(&mut bytes, 0, reg(mem, memory::HANDLE, 88));
-    bytes
+fn handle(bench: &Bench) -> IncSetHandle {
+    decode_handle(bench.first::<88>(HANDLE))
 }
 
-fn finalize(env: Env, mem: &[u8], kv: &mut [u8], rbp: &mut [u8]) -> u32 {
-    store::incremental::set_finalize(
-        kv,
-        rbp,
-        reg(mem, memory::KEY, env.key),
-        decode_handle(handle_bytes(mem)),
-        reg(mem, memory::STAGING, env.lens[3]),
-    )
-}
-
-fn write_status(
-    word: Word,
-    args: Args,
-    env: Env,
-    mem: &[u8],
-    kv: &mut [u8],
-    rbp: &mut [u8],
-) -> u32 {
-    match word {
-        Word::Set => set(args, env, mem, kv, rbp),
-        Word::Remove => store::remove::remove(kv, rbp, reg(mem, 0, args.values[0])),
-        Word::Save => save(args, env, mem, kv, rbp),
-        Word::Finalize => finalize(env, mem, kv, rbp),
-        Word::StoreMix => edge_mixes::store(args, env, mem, kv, rbp),
-        _ => store::reset::reset(kv, rbp),
-    }
+fn finalize(bench: &Bench, kv: &mut [u8], rbp: &mut [u8]) -> Result<(), Refusal> {
+    store::incremental::set_finalize(kv, rbp, bench.key(), handle(bench), bench.staging())
 }
 
 // The calls that may write card and chip answer with a status alone.
-fn write_call(word: Word, args: Args, env: Env, mem: &mut [u8]) -> u32 {
+fn write<F: FnOnce(&Bench, &mut [u8], &mut [u8]) -> Result<(), Refusal>>(
+    bench: &mut Bench,
+    call: F,
+) -> Answer
+    requires { F.IsAlwaysCallable call }
+{
+    let media = bench.media();
     let mut kv = [0u8; CHIP];
     let mut rbp = [0u8; 5330];
-    put(&mut kv, 0, span(mem, 0, CHIP));
-    put(&mut rbp, 0, span(mem, CHIP, 5330));
-    let status = write_status(
-        word,
-        args,
-        env,
-        mem,
-        front_mut(&mut kv, env.lens[0]),
-        front_mut(&mut rbp, env.lens[1]),
+    kv.copy_from_slice(&media[..CHIP]);
+    rbp.copy_from_slice(&media[CHIP..]);
+    let result = call(
+        bench,
+        front_mut(&mut kv, bench.len(Place::Card)),
+        front_mut(&mut rbp, bench.len(Place::Chip)),
     );
-    put(mem, 0, &kv);
-    put(mem, CHIP, &rbp);
-    status
+    bench.set_media(&kv, &rbp);
+    answered(result.map(|_| []))
 }
 
-fn info(args: Args, env: Env, mem: &[u8]) -> Answer {
-    let info = store::get::get_info(
-        span(mem, 0, env.lens[0]),
-        span(mem, CHIP, env.lens[1]),
-        reg(mem, memory::KEY, env.key),
-        reg(mem, 0, args.values[0]),
-    );
-    Answer::call(3, wide(info.status), wide(info.data_size), wide(info.flags))
-}
-
-fn next(args: Args, env: Env, mem: &[u8], name_buf: &mut [u8]) -> Answer {
-    let next = store::iterate::iterator_next(
-        span(mem, 0, env.lens[0]),
-        span(mem, CHIP, env.lens[1]),
-        reg(mem, 0, args.values[0]),
-        args.values[1],
-        name_buf,
-    );
-    let name_len = wide_size(next.name_len);
-    Answer::call(3, wide(next.status), name_len, wide_size(next.next_slot))
-}
-
-fn get(args: Args, env: Env, mem: &[u8], output: &mut [u8]) -> Got {
+fn get(args: Args, bench: &Bench, output: &mut [u8]) -> Result<usize, Refusal> {
     store::get::get(
-        span(mem, 0, env.lens[0]),
-        span(mem, CHIP, env.lens[1]),
-        reg(mem, memory::KEY, env.key),
-        reg(mem, 0, args.values[0]),
+        bench.card(),
+        bench.chip(),
+        bench.key(),
+        bench.arg(args, 0),
         args.values[1],
         output,
     )
 }
 
-fn load(args: Args, env: Env, mem: &[u8], key_buf: &mut [u8]) -> Got {
+fn info(args: Args, bench: &Bench) -> Answer {
+    let info = store::get::get_info(bench.card(), bench.chip(), bench.key(), bench.arg(args, 0));
+    answered(info.map(|info| [u64::from(info.data_size), u64::from(info.flags)]))
+}
+
+fn next(args: Args, bench: &Bench, name_buf: &mut [u8]) -> Answer {
+    let next = store::iterate::iterator_next(
+        bench.card(),
+        bench.chip(),
+        bench.arg(args, 0),
+        args.values[1],
+        name_buf,
+    );
+    answered(next.map(|next| [next.name_len as u64, next.next_slot as u64]))
+}
+
+fn load(args: Args, bench: &Bench, key_buf: &mut [u8]) -> Result<usize, Refusal> {
     keys::persist::load_persistent_key(
-        span(mem, 0, env.lens[0]),
-        span(mem, CHIP, env.lens[1]),
-        reg(mem, memory::KEY, env.key),
-        narrow(args.values[0]),
+        bench.card(),
+        bench.chip(),
+        bench.key(),
+        args.narrow(0),
         key_buf,
     )
 }
 
-fn counted(got: Got) -> Answer {
-    Answer::call(2, wide(got.status), wide_size(got.count), 0)
+fn format(args: Args, bench: &Bench, key_buf: &mut [u8]) -> Result<usize, Refusal> {
+    keys::format::format_key_file(attributes(bench), bench.arg(args, 0), key_buf)
 }
 
-fn read_answer(word: Word, args: Args, env: Env, mem: &[u8], lent: &mut [u8]) -> Answer {
-    match word {
-        Word::Get => counted(get(args, env, mem, lent)),
-        Word::Next => next(args, env, mem, lent),
-        Word::Load => counted(load(args, env, mem, lent)),
-        Word::FindMix => counted(edge_mixes::find(args, env, mem, lent)),
-        Word::EncodeMix => counted(edge_mixes::encode(args, mem, lent)),
-        _ => counted(keys::format::format_key_file(
-            attributes(mem),
-            reg(mem, 0, args.values[0]),
-            lent,
-        )),
-    }
+fn counted(outcome: Result<usize, Refusal>) -> Answer {
+    answered(outcome.map(|n| [n as u64]))
 }
 
-// The calls that are lent a buffer: n bytes of the last register, which has them afterwards.
-fn read_call(word: Word, args: Args, n: usize, env: Env, mem: &mut [u8]) -> Answer {
+// The calls that are lent a buffer: n bytes of its register, which has them afterwards.
+fn lend<F: FnOnce(&Bench, &mut [u8]) -> Answer>(bench: &mut Bench, n: usize, call: F) -> Answer
+    requires { F.IsAlwaysCallable call }
+{
     let mut lent = [0u8; 1024];
-    put(&mut lent, 0, reg(mem, memory::LENT, n));
-    let answer = read_answer(word, args, env, mem, front_mut(&mut lent, n));
-    put(memory::reg_mut(mem, memory::LENT), 0, &lent);
-    answer.and_bytes(n)
+    put(&mut lent, 0, bench.reg(LENT, n));
+    let answer = call(bench, front_mut(&mut lent, n));
+    put(bench.reg_mut(LENT), 0, &lent);
+    answer.and_bytes(&[n])
 }
 
 // The handle that a call handed back lasts, and its bytes are part of the answer.
-fn keep_handle(progress: SetProgress, mem: &mut [u8]) -> Answer {
-    let handle = progress.handle;
+fn keep_handle(handle: IncSetHandle, bench: &mut Bench) {
     let bytes = encode_handle(handle);
-    put(memory::reg_mut(mem, memory::HANDLE), 0, &bytes);
-    put(memory::reg_mut(mem, memory::LENT), 0, &bytes);
-    Answer::call(1, wide(progress.status), 0, 0).and_bytes(88)
+    put(bench.reg_mut(HANDLE), 0, &bytes);
+    put(bench.reg_mut(LENT), 0, &bytes);
 }
 
-fn start(args: Args, env: Env, mem: &mut [u8]) -> Answer {
-    let progress = store::incremental::set_start(
-        reg(mem, 0, args.values[0]),
-        narrow(args.values[1]),
-        reg(mem, memory::IV, env.iv),
+// A start that is refused hands back a handle of zeros.
+fn start(args: Args, bench: &mut Bench) -> Answer {
+    let started = store::incremental::set_start(
+        bench.arg(args, 0),
+        args.narrow(1),
+        bench.iv(),
         args.values[2],
     );
-    keep_handle(progress, mem)
+    let handle = match started {
+        Ok(handle) => handle,
+        Err(_) => zero_handle(),
+    };
+    keep_handle(handle, bench);
+    answered(started.map(|_| [])).and_bytes(&[88])
 }
 
 // The staging buffer's bytes stand behind the handle's in the answer.
-fn add(args: Args, env: Env, mem: &mut [u8]) -> Answer {
-    let n = env.lens[3];
+fn add(args: Args, bench: &mut Bench) -> Answer {
+    let n = bench.len(Place::Staging);
     let mut staging = [0u8; 512];
-    put(&mut staging, 0, reg(mem, memory::STAGING, n));
-    let progress = store::incremental::set_add_data(
-        decode_handle(handle_bytes(mem)),
+    put(&mut staging, 0, bench.staging());
+    let mut handle = handle(bench);
+    let added = store::incremental::set_add_data(
+        &mut handle,
         front_mut(&mut staging, n),
-        reg(mem, 0, args.values[0]),
+        bench.arg(args, 0),
     );
-    put(memory::reg_mut(mem, memory::STAGING), 0, &staging);
-    put(memory::reg_mut(mem, memory::LENT), 88, &staging);
-    keep_handle(progress, mem).and_bytes(n)
+    keep_handle(handle, bench);
+    put(bench.reg_mut(STAGING), 0, &staging);
+    put(bench.reg_mut(LENT), 88, &staging);
+    answered(added.map(|_| [])).and_bytes(&[88, n])
 }
 
-fn call(word: Word, args: Args, env: Env, mem: &mut [u8]) -> Answer {
-    match word {
-        Word::Get | Word::Next => read_call(word, args, args.values[2], env, mem),
-        Word::Load | Word::Format | Word::FindMix => {
-            read_call(word, args, args.values[1], env, mem)
-        }
-        Word::EncodeMix => read_call(word, args, args.values[4], env, mem),
-        Word::DecodeMix => edge_mixes::decode(args, mem),
-        Word::Info => info(args, env, mem),
-        Word::Start => start(args, env, mem),
-        Word::Add => add(args, env, mem),
-        _ => Answer::call(1, wide(write_call(word, args, env, mem)), 0, 0),
+fn made(call: Call, args: Args, bench: &mut Bench) -> Answer {
+    match call {
+        Call::Set => write(bench, |bench, kv, rbp| set(args, bench, kv, rbp)),
+        Call::Remove => write(bench, |bench, kv, rbp| {
+            store::remove::remove(kv, rbp, bench.arg(args, 0))
+        }),
+        Call::Reset => write(bench, |_, kv, rbp| store::reset::reset(kv, rbp)),
+        Call::Save => write(bench, |bench, kv, rbp| save(args, bench, kv, rbp)),
+        Call::Finalize => write(bench, finalize),
+        Call::StoreMix => write(bench, |bench, kv, rbp| {
+            edge_mixes::store(args, bench, kv, rbp)
+        }),
+        Call::Get => lend(bench, args.values[2], |bench, lent| {
+            counted(get(args, bench, lent))
+        }),
+        Call::Next => lend(bench, args.values[2], |bench, lent| next(args, bench, lent)),
+        Call::Load => lend(bench, args.values[1], |bench, lent| {
+            counted(load(args, bench, lent))
+        }),
+        Call::Format => lend(bench, args.values[1], |bench, lent| {
+            counted(format(args, bench, lent))
+        }),
+        Call::FindMix => lend(bench, args.values[1], |bench, lent| {
+            counted(edge_mixes::find(args, bench, lent))
+        }),
+        Call::EncodeMix => lend(bench, args.values[4], |bench, lent| {
+            counted(edge_mixes::encode(args, bench, lent))
+        }),
+        Call::DecodeMix => edge_mixes::decode(args, bench),
+        Call::Info => info(args, bench),
+        Call::Start => start(args, bench),
+        Call::Add => add(args, bench),
     }
 }
 
 // A call of a line, of a sweep or of a fill: where it is refused, every byte of card and chip must be as it was.
-pub fn checked_call(word: Word, args: Args, env: Env, mem: &mut [u8]) -> Answer {
-    let mut before = [0u8; MEDIA];
-    put(&mut before, 0, front(mem, MEDIA));
-    let answer = call(word, args, env, mem);
-    answer.and_changed(!bytes_equal(&before, front(mem, MEDIA)))
+pub fn checked_call(call: Call, args: Args, bench: &mut Bench) -> Answer {
+    let before = bench.media();
+    let answer = made(call, args, bench);
+    answer.and_changed(before != bench.media())
 }

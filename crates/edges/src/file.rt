@@ -1,230 +1,194 @@
 // A file's lines, one after the other, and its groups.
-ghost use Rattle.io.specs.Counts.{IsPrefixLen};
-
 use crate::{calls, sweep};
-use buffers::compare::bytes_equal;
 use edge_lines::answer::Answer;
-use edge_lines::areas::{front, part};
-use edge_lines::args::Args;
-use edge_lines::memory::MEMORY;
-use edge_lines::state::Env;
-use edge_lines::tally::Tally;
-use edge_lines::words::Word;
-use edge_lines::{answer, args, memory, print, state, words};
-use std::fs::File;
-use std::io::{Error, ErrorKind, Result};
-use std::num::{wrapping_add_u64, wrapping_add_usize, wrapping_sub_usize};
-use std::os::fd::AsRawFd;
-use std::str;
-use text::parts::{field, field_count};
-
-const STDERR: i32 = 2;
-
-// Where a run of lines stands: what lasts, the group's tally and the tally of all before it, and the line that names the group.
-#[derive(Clone, Copy)]
-struct Run {
-    env: Env,
-    group: Tally,
-    before: Tally,
-    named: bool,
-    name: usize,
-}
+use edge_lines::areas::front;
+use edge_lines::args::{Args, read_args};
+use edge_lines::bench::{Bench, LENT};
+use edge_lines::print;
+use edge_lines::words::{Row, Setup, Word};
+use text::parts::{field, field_count, line, line_count};
+use trials::files::load;
+use trials::tally::Tally;
 
 fn is_note(s: &[u8]) -> bool {
-    0 < s.len() && s[0] == b'#'
+    s.starts_with(b"#")
 }
 
-// How many fields a line has without a note.
-fn fields_of(line: &[u8]) -> usize {
-    let n = field_count(line);
-    let last = wrapping_sub_usize(n, 1);
-    if is_note(field(line, last)) { last } else { n }
+// A line, and where it stands.
+#[derive(Clone, Copy)]
+struct Line<'a> {
+    file: &'a [u8],
+    k: usize,
+    text: &'a [u8],
 }
 
-fn answer_of(index: usize, line: &[u8], args: Args, env: Env, mem: &mut [u8]) -> Answer {
-    let word = words::answering(index);
-    match word {
-        Word::At => sweep::at(line, args, env, mem),
-        Word::Same => sweep::same(args, env, mem),
-        Word::Fill => sweep::fill(args, env, mem),
-        Word::Bits => sweep::run_sweep(true, 4, line, args, env, mem),
-        Word::Each => sweep::run_sweep(false, 5, line, args, env, mem),
-        Word::Unknown => Answer::unreadable(),
-        _ => calls::checked_call(word, args, env, mem),
-    }
-}
-
-// A line whose arguments can be read is carried out.
-fn answer_line(index: usize, line: &[u8], env: Env, mem: &mut [u8]) -> Answer {
-    let args = args::read_args(index, line, mem);
-    if args.ok {
-        answer_of(index, line, args, env, mem)
-    } else {
-        Answer::unreadable()
-    }
-}
-
-fn print_line(file: &[u8], k: usize, line: &[u8]) {
-    print::text(file);
-    print::text(b":");
-    print::number(wrapping_add_u64(k as u64, 1));
-    print::text(b": ");
-    print::text(line);
-    print::text(b"\n    ");
-}
-
-// Whether a line is as expected, whose arguments end at a field; where it is not, it is told.
-fn judge(file: &[u8], k: usize, line: &[u8], end: usize, answer: Answer, out: &[u8]) -> Tally {
-    let parted = bytes_equal(field(line, end), b"=");
-    let from = wrapping_add_usize(end, 1);
-    let good = parted && answer::matches(line, from, fields_of(line), answer, out);
-    if !good {
-        print_line(file, k, line);
-        answer::print_answer(answer, out);
-    }
-    Tally::of(good)
-}
-
-// A line that prepares is told, and counts, only where it cannot be carried out.
-fn judge_prepared(file: &[u8], k: usize, line: &[u8], end: usize, ok: bool) -> Tally {
-    if ok && fields_of(line) == end {
-        return Tally::zero();
-    }
-    print_line(file, k, line);
-    answer::print_answer(Answer::unreadable(), b"");
-    Tally::of(false)
-}
-
-impl Run {
-    fn with(self, env: Env, tally: Tally) -> Run {
-        let before = self.before;
-        Run {
-            env,
-            group: self.group.plus(tally),
-            before,
-            named: self.named,
-            name: self.name,
+impl Line<'_> {
+    // How many fields it has without a note.
+    fn fields(self) -> usize {
+        let n = field_count(self.text);
+        let last = n.wrapping_sub(1);
+        if is_note(field(self.text, last)) {
+            last
+        } else {
+            n
         }
     }
-}
 
-fn do_answering(file: &[u8], k: usize, index: usize, line: &[u8], run: Run, mem: &mut [u8]) -> Run {
-    let env = run.env;
-    let answer = answer_line(index, line, env, mem);
-    let out = memory::reg(mem, memory::LENT, 1024);
-    let tally = judge(file, k, line, words::end(index), answer, out);
-    run.with(env, tally)
-}
-
-fn do_preparing(file: &[u8], k: usize, index: usize, line: &[u8], run: Run, mem: &mut [u8]) -> Run {
-    let args = args::read_args(index, line, mem);
-    let start = run.env.fresh(args.ok);
-    let env = state::prepare(words::preparing(index), line, args, start, mem);
-    let tally = judge_prepared(file, k, line, words::end(index), env.ok);
-    run.with(env, tally)
-}
-
-// The group's name without the mark, and its tally.
-fn print_group(text: &[u8], run: Run) {
-    if run.named {
-        let name = text::parts::line(text, run.name);
-        print::text(part(name, 2, name.len()));
+    fn print(self) {
+        print::text(self.file);
+        print::text(b":");
+        print::number((self.k as u64).wrapping_add(1));
         print::text(b": ");
-        print::number(run.group.good);
-        print::text(b" of ");
-        print::number(run.group.tried);
-        print::text(b"\n");
+        print::text(self.text);
+        print::text(b"\n    ");
+    }
+
+    // A line that is not as expected is told, with what was answered: nothing, where it cannot be read or carried out.
+    fn tell(self, answer: Option<Answer>, out: &[u8]) {
+        self.print();
+        match answer {
+            Some(answer) => answer.print(out),
+            None => print::text(b"cannot be read or carried out\n"),
+        }
+    }
+
+    // Whether it is as expected, where its arguments end at a field.
+    fn judge(self, end: usize, answer: Option<Answer>, out: &[u8]) -> Tally {
+        let parted = matches!(field(self.text, end), b"=");
+        let good = parted
+            && answer.is_some_and(|answer| {
+                answer.matches(self.text, end.wrapping_add(1), self.fields(), out)
+            });
+        if !good {
+            self.tell(answer, out);
+        }
+        Tally::of(good)
+    }
+
+    // A line that prepares is told, and counts, only where it cannot be carried out.
+    fn judge_prepared(self, end: usize, ok: bool) -> Tally {
+        if ok && self.fields() == end {
+            return Tally::default();
+        }
+        self.tell(None, &[]);
+        Tally::of(false)
     }
 }
 
-// The group that line k begins.
-fn next_group(text: &[u8], k: usize, run: Run) -> Run {
-    print_group(text, run);
-    let env = run.env;
-    Run {
-        env,
-        group: Tally::zero(),
-        before: run.before.plus(run.group),
-        named: true,
-        name: k,
-    }
+// Where a run of a file's lines stands: what lasts, the group's tally and the tally of all before it, and the line that names the group.
+#[derive(Drop)]
+struct Run<'a> {
+    file: &'a [u8],
+    text: &'a [u8],
+    bench: Bench,
+    group: Tally,
+    before: Tally,
+    name: Option<&'a [u8]>,
 }
 
-fn run_line(file: &[u8], text: &[u8], k: usize, run: Run, mem: &mut [u8]) -> Run {
-    let line = text::parts::line(text, k);
-    let index = words::index_of(field(line, 0));
-    if line.len() == 0 {
-        run
-    } else if is_note(line) {
-        next_group(text, k, run)
-    } else if words::kind(index, 0) == b'.' {
-        do_preparing(file, k, index, line, run, mem)
-    } else {
-        do_answering(file, k, index, line, run, mem)
+impl<'a> Run<'a> {
+    fn answer(&mut self, word: Word, line: &[u8], args: Args) -> Option<Answer> {
+        let bench = &mut self.bench;
+        match word {
+            Word::Call(call) => Some(calls::checked_call(call, args, bench)),
+            Word::At => sweep::at(line, args, bench),
+            Word::Same => sweep::same(args, bench),
+            Word::Fill => sweep::fill(args, bench),
+            Word::Bits => sweep::bits(line, args, bench),
+            Word::Each => sweep::each(line, args, bench),
+            Word::Setup(_) => None,
+        }
     }
-}
 
-fn run_lines(file: &[u8], text: &[u8], lines: usize, start: Run, mem: &mut [u8]) -> Run {
-    let mut run = start;
-    let mut k = 0;
-    while k < lines {
-        run = run_line(file, text, k, run, mem);
-        k += 1;
+    // A line whose arguments can be read is carried out.
+    fn run_answering(&mut self, row: Row, line: Line) -> Tally {
+        let answer = match read_args(row.kinds, line.text, &mut self.bench) {
+            Ok(args) => self.answer(row.word, line.text, args),
+            Err(_) => None,
+        };
+        line.judge(row.end(), answer, self.bench.reg(LENT, 1024))
     }
-    run
+
+    fn run_preparing(&mut self, word: Setup, row: Row, line: Line) -> Tally {
+        let (ok, args) = match read_args(row.kinds, line.text, &mut self.bench) {
+            Ok(args) => (true, args),
+            Err(args) => (false, args),
+        };
+        let done = self.bench.prepare(word, line.text, args);
+        line.judge_prepared(row.end(), ok && done)
+    }
+
+    // The group's name without the mark, and its tally.
+    fn print_group(&self) {
+        if let Some(name) = self.name {
+            print::text(name.get(2..).unwrap_or(name));
+            print::text(b": ");
+            print::number(self.group.passed);
+            print::text(b" of ");
+            print::number(self.group.tried);
+            print::text(b"\n");
+        }
+    }
+
+    // The group that a line begins.
+    fn begin_group(&mut self, name: &'a [u8]) {
+        self.print_group();
+        self.before += self.group;
+        self.group = Tally::default();
+        self.name = Some(name);
+    }
+
+    fn run_line(&mut self, k: usize) {
+        let text = line(self.text, k);
+        let line = Line {
+            file: self.file,
+            k,
+            text,
+        };
+        if text.is_empty() {
+            return;
+        }
+        if is_note(text) {
+            return self.begin_group(text);
+        }
+        let tally = match Row::of(field(text, 0)) {
+            Some(row) => match row.word {
+                Word::Setup(word) => self.run_preparing(word, row, line),
+                _ => self.run_answering(row, line),
+            },
+            None => line.judge(0, None, &[]),
+        };
+        self.group += tally;
+    }
 }
 
 fn run_text(file: &[u8], text: &[u8]) -> Tally {
-    let mut mem = [0u8; MEMORY];
-    let start = Run {
-        env: state::start(&mut mem),
-        group: Tally::zero(),
-        before: Tally::zero(),
-        named: false,
-        name: 0,
+    let mut run = Run {
+        file,
+        text,
+        bench: Bench::new(),
+        group: Tally::default(),
+        before: Tally::default(),
+        name: None,
     };
-    let lines = text::parts::line_count(text);
-    let run = run_lines(file, text, lines, start, &mut mem);
-    print_group(text, run);
-    run.before.plus(run.group)
-}
-
-fn open(rt: &HostRuntime, path: &[u8]) -> Result<File> {
-    match str::from_utf8(path) {
-        Ok(name) => File::open(rt, name),
-        Err(_) => Err(Error::from(ErrorKind::InvalidFilename)),
+    for k in 0..line_count(text) {
+        run.run_line(k);
     }
-}
-
-// Says on standard error why a file cannot be opened.
-fn fail(rt: &HostRuntime, path: &[u8], why: Error) {
-    io::write_all(STDERR, path);
-    io::write_all(STDERR, b": ");
-    let _ = rt.eprintln(why);
-}
-
-// Puts a file's bytes at the start of buf, and answers how many, 0 where it cannot be opened.
-fn load(rt: &HostRuntime, path: &[u8], buf: &mut [u8]) -> usize
-    ensures { IsPrefixLen result buf.new }
-{
-    match open(rt, path) {
-        Ok(file) => io::read_full(file.as_raw_fd(), buf),
-        Err(why) => {
-            fail(rt, path, why);
-            0
-        }
-    }
+    run.print_group();
+    let mut total = run.before;
+    total += run.group;
+    total
 }
 
 // A file that is missing, too long, or has nothing to try counts as one line that differs.
 pub fn run_file(rt: &HostRuntime, path: &[u8]) -> Tally {
     let mut text = [0u8; 131072];
-    let n = load(rt, path, &mut text);
-    let tally = run_text(path, front(&text, n));
-    if 0 < tally.tried && n < 131072 {
-        return tally;
+    let n = load(rt, path, &mut text).unwrap_or(0);
+    let mut tally = run_text(path, front(&text, n));
+    if tally.tried == 0 || text.len() <= n {
+        print::text(path);
+        print::text(b": nothing to try, or too long\n");
+        tally += Tally::of(false);
     }
-    print::text(path);
-    print::text(b": nothing to try, or too long\n");
-    tally.plus(Tally::of(false))
+    tally
 }

@@ -8,9 +8,9 @@ mod sweep;
 
 use edge_lines::areas::front;
 use edge_lines::print;
-use edge_lines::tally::Tally;
 use std::env::FillError;
 use std::rt::Env;
+use trials::tally::Tally;
 
 // How many arguments the program was started with, its own name among them.
 fn argument_count(rt: &HostRuntime) -> usize {
@@ -34,12 +34,12 @@ fn print_verdict(total: Tally) {
     print::text(b"edges: ");
     if total.tried == 0 {
         print::text(b"nothing was tried\n");
-    } else if total.good == total.tried {
+    } else if total.all_passed() {
         print::text(b"all ");
         print::number(total.tried);
         print::text(b" lines as expected\n");
     } else {
-        print::number(total.bad());
+        print::number(total.failed());
         print::text(b" of ");
         print::number(total.tried);
         print::text(b" lines differ\n");
@@ -48,11 +48,9 @@ fn print_verdict(total: Tally) {
 
 fn main(rt: HostRuntime) {
     let files = argument_count(&rt);
-    let mut total = Tally::zero();
-    let mut i = 1;
-    while i < files {
-        total = total.plus(run_argument(&rt, i));
-        i += 1;
+    let mut total = Tally::default();
+    for i in 1..files {
+        total += run_argument(&rt, i);
     }
     print_verdict(total);
 }

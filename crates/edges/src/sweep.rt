@@ -1,224 +1,185 @@
 // Words that look at the bytes of card and chip, or try many calls.
-use crate::calls;
-use buffers::compare::bytes_equal;
-use edge_lines::answer::Answer;
-use edge_lines::areas::{byte_at, flip_byte, put, span};
+use crate::calls::checked_call;
+use edge_lines::answer::{Answer, Outcome};
+use edge_lines::areas::put;
 use edge_lines::args::Args;
-use edge_lines::memory::{CHIP, MEDIA};
-use edge_lines::state::{Env, copy_at};
-use edge_lines::values::read_bytes;
-use edge_lines::words::Word;
-use edge_lines::{memory, words};
-use std::num::{wrapping_add_u64, wrapping_add_usize, wrapping_sub_usize};
+use edge_lines::bench::{Bench, LENT, MEDIA, NAME, place_at};
+use edge_lines::values::{read_bytes, some};
+use edge_lines::words::{Call, Row, Word};
 use text::parts::field;
 
 // A status that no call has: the trials answered differently, or one was refused and changed card or chip.
 const MIXED: u64 = 4294967295;
 
 // As many bytes as are expected, from an index on.
-pub fn at(line: &[u8], args: Args, env: Env, mem: &mut [u8]) -> Answer {
+pub fn at(line: &[u8], args: Args, bench: &mut Bench) -> Option<Answer> {
     let mut bytes = [0u8; 1024];
     let read = read_bytes(field(line, 4), &mut bytes);
-    let from = wrapping_add_usize(memory::place_at(args.values[0]), args.values[1]);
-    put(&mut bytes, 0, span(mem, from, read.count));
-    put(memory::reg_mut(mem, memory::LENT), 0, &bytes);
-    if read.ok && env.has(args.values[0], args.values[1], read.count) {
-        Answer::of(0, 0, 0, 0).and_bytes(read.count)
-    } else {
-        Answer::unreadable()
-    }
-}
-
-// 0 where n bytes from two indices on are the same, and as many are asked.
-fn differ(mem: &[u8], a: usize, b: usize, n: usize, m: usize) -> u64 {
-    if n == m && bytes_equal(span(mem, a, n), span(mem, b, n)) {
-        0
-    } else {
-        1
-    }
+    put(
+        &mut bytes,
+        0,
+        bench.at(args.place, args.values[1], some(read)),
+    );
+    put(bench.reg_mut(LENT), 0, &bytes);
+    let n = read.ok()?;
+    bench.index(args.place, args.values[1], n)?;
+    Some(Answer::of(&[]).and_bytes(&[n]))
 }
 
 // Nothing, where card and chip are those of the copy; else a 1 for each that differs.
-pub fn same(args: Args, env: Env, mem: &[u8]) -> Answer {
+pub fn same(args: Args, bench: &Bench) -> Option<Answer> {
     let copy = args.values[0];
-    let from = copy_at(copy);
-    let card = differ(mem, 0, from, env.lens[0], env.kept_len(0, copy));
-    let behind = wrapping_add_usize(from, CHIP);
-    let chip = differ(mem, CHIP, behind, env.lens[1], env.kept_len(1, copy));
-    if 3 < copy || MEDIA <= env.kept_len(0, copy) {
-        Answer::unreadable()
-    } else if card == 0 && chip == 0 {
-        Answer::of(0, 0, 0, 0)
+    let kept = bench.kept(copy)?;
+    if MEDIA <= kept.card {
+        return None;
+    }
+    let card = bench.same_card(copy, kept);
+    let chip = bench.same_chip(copy, kept);
+    if card && chip {
+        Some(Answer::of(&[]))
     } else {
-        Answer::of(2, card, chip, 0)
+        Some(Answer::of(&[u64::from(!card), u64::from(!chip)]))
     }
 }
 
 // One call for each of some bits of card or chip, inverted one at a time, or for each of some numbers that one byte is given.
 #[derive(Clone, Copy)]
-struct Sweep {
-    bits: bool,
-    at: usize,
-    first: usize,
-    count: usize,
+enum Sweep {
+    Bits {
+        at: usize,
+        bytes: usize,
+    },
+    Numbers {
+        at: usize,
+        first: usize,
+        count: usize,
+    },
 }
 
-// place, index, bytes; or place, index, first, last
-fn sweep_of(bits: bool, args: Args) -> Sweep {
-    let first = args.values[2];
-    let numbers = wrapping_sub_usize(wrapping_add_usize(args.values[3], 1), first);
-    Sweep {
-        bits,
-        at: args.values[1],
-        first,
-        count: if bits { first % 65536 * 8 } else { numbers },
-    }
-}
-
-// Which byte trial i changes.
-fn index_at(sweep: Sweep, i: usize) -> usize {
-    if sweep.bits {
-        wrapping_add_usize(sweep.at, i / 8)
-    } else {
-        sweep.at
-    }
-}
-
-fn narrow(n: usize) -> u8 {
+fn low_byte(n: usize) -> u8 {
     (n % 256) as u8
 }
 
-// Which of its bits: one, or those in which it differs from the number that it is given.
-fn mask_at(sweep: Sweep, i: usize, byte: u8) -> u8 {
-    let masks = [1u8, 2, 4, 8, 16, 32, 64, 128];
-    if sweep.bits {
-        masks[i % 8]
-    } else {
-        byte ^ narrow(wrapping_add_usize(sweep.first, i))
+impl Sweep {
+    fn count(self) -> usize {
+        match self {
+            Sweep::Bits { bytes, .. } => bytes % 65536 * 8,
+            Sweep::Numbers { count, .. } => count,
+        }
     }
+
+    // Which byte trial i changes.
+    fn index(self, i: usize) -> usize {
+        match self {
+            Sweep::Bits { at, .. } => at.wrapping_add(i / 8),
+            Sweep::Numbers { at, .. } => at,
+        }
+    }
+
+    // Which of its bits: one, or those in which it differs from the number that it is given.
+    fn mask(self, i: usize, byte: u8) -> u8 {
+        match self {
+            Sweep::Bits { .. } => 1 << (i % 8),
+            Sweep::Numbers { first, .. } => byte ^ low_byte(first.wrapping_add(i)),
+        }
+    }
+}
+
+// The call that a sweep tries, by its word.
+fn swept(name: &[u8]) -> Option<Call> {
+    match Row::of(name)?.word {
+        Word::Call(call @ (Call::Set | Call::Get | Call::Info | Call::Remove)) => Some(call),
+        _ => None,
+    }
+}
+
+// The arguments of a sweep's call: its name; for a get all of the output, for a set flags 0 and no data.
+fn trial_args(call: Call, name: usize) -> Args {
+    let mut args = Args::default();
+    args.values[0] = name;
+    if matches!(call, Call::Get) {
+        args.values[2] = 480;
+    }
+    args
 }
 
 // Trial i: the bits are inverted, and put back after the call.
-fn trial(
-    sweep: Sweep,
-    i: usize,
-    base: usize,
-    word: Word,
-    args: Args,
-    env: Env,
-    mem: &mut [u8],
-) -> u64 {
-    let at = wrapping_add_usize(base, index_at(sweep, i));
-    let mask = mask_at(sweep, i, byte_at(mem, at));
-    flip_byte(mem, at, mask);
-    let answer = calls::checked_call(word, args, env, mem);
-    flip_byte(mem, at, mask);
-    if answer.changed {
+fn trial(sweep: Sweep, i: usize, call: Call, place: usize, args: Args, bench: &mut Bench) -> u64 {
+    let at = place.wrapping_add(sweep.index(i));
+    let mask = sweep.mask(i, bench.byte(at));
+    bench.flip_byte(at, mask);
+    let answer = checked_call(call, args, bench);
+    bench.flip_byte(at, mask);
+    if answer.outcome == Outcome::Changed {
         MIXED
     } else {
-        answer.values[0]
+        answer.status()
     }
 }
 
-// The status of all n trials, or that they differ.
-fn trials(
-    sweep: Sweep,
-    n: usize,
-    base: usize,
-    word: Word,
-    args: Args,
-    env: Env,
-    mem: &mut [u8],
-) -> u64 {
-    let mut common = trial(sweep, 0, base, word, args, env, mem);
-    let mut i = 0;
-    while i < n {
-        if common != trial(sweep, i, base, word, args, env, mem) {
+// The status of all trials, or that they differ. The first is run once more, so that it too is held against another.
+fn trials(sweep: Sweep, call: Call, place: usize, args: Args, bench: &mut Bench) -> u64 {
+    let mut common = trial(sweep, 0, call, place, args, bench);
+    for i in 0..sweep.count() {
+        if common != trial(sweep, i, call, place, args, bench) {
             common = MIXED;
         }
-        i += 1;
     }
     common
 }
 
-// The calls that a sweep tries.
-fn is_swept(word: Word) -> bool {
-    match word {
-        Word::Set | Word::Get | Word::Info | Word::Remove => true,
-        _ => false,
+// The call stands in field k, and behind it the name. Every byte that is changed has to stand there, and there has to be one.
+fn run(sweep: Sweep, k: usize, line: &[u8], args: Args, bench: &mut Bench) -> Option<Answer> {
+    let call = swept(field(line, k))?;
+    let last = sweep.count().wrapping_sub(1);
+    if 524288 <= last || bench.len(args.place) <= sweep.index(last) {
+        return None;
     }
+    let tried = trial_args(call, args.values[k % 6]);
+    let status = trials(sweep, call, place_at(args.place), tried, bench);
+    Some(Answer::call(status, &[]))
 }
 
-// Whether every byte that is changed stands there, and there is one.
-fn can_sweep(sweep: Sweep, word: Word, len: usize) -> bool {
-    let last = wrapping_sub_usize(sweep.count, 1);
-    is_swept(word) && last < 524288 && index_at(sweep, last) < len
-}
-
-// The arguments of a sweep's call: its name; for a get all of the output, for a set flags 0 and no data.
-fn trial_args(word: Word, name: usize) -> Args {
-    let len = match word {
-        Word::Get => 480,
-        _ => 0,
+pub fn bits(line: &[u8], args: Args, bench: &mut Bench) -> Option<Answer> {
+    let sweep = Sweep::Bits {
+        at: args.values[1],
+        bytes: args.values[2],
     };
-    Args {
-        ok: true,
-        values: [name, 0, len, 0, 0, 0],
-    }
+    run(sweep, 4, line, args, bench)
 }
 
-// The call stands in field k, and behind it the name.
-pub fn run_sweep(
-    bits: bool,
-    k: usize,
-    line: &[u8],
-    args: Args,
-    env: Env,
-    mem: &mut [u8],
-) -> Answer {
-    let word = words::answering(words::index_of(field(line, k)));
-    let sweep = sweep_of(bits, args);
-    let place = args.values[0] % 2;
-    if !can_sweep(sweep, word, env.lens[place]) {
-        return Answer::unreadable();
-    }
-    let tried = trial_args(word, args.values[k % 6]);
-    let status = trials(sweep, sweep.count, place * CHIP, word, tried, env, mem);
-    Answer::call(1, status, 0, 0)
+pub fn each(line: &[u8], args: Args, bench: &mut Bench) -> Option<Answer> {
+    let first = args.values[2];
+    let sweep = Sweep::Numbers {
+        at: args.values[1],
+        first,
+        count: args.values[3].wrapping_add(1).wrapping_sub(first),
+    };
+    run(sweep, 5, line, args, bench)
 }
 
-// 1 where the set of the name "n" and byte i from 0x21 on is done, more than any count where it was refused and changed card or chip. The name stands in
-// register 0.
-fn fill_one(i: usize, args: Args, env: Env, mem: &mut [u8]) -> u64 {
-    let name = [b'n', narrow(wrapping_add_usize(0x21, i))];
-    put(memory::reg_mut(mem, 0), 0, &name);
-    let mut values = args.values;
-    values[0] = 2;
-    let answer = calls::checked_call(Word::Set, Args { ok: true, values }, env, mem);
-    if answer.changed {
-        MIXED
-    } else if answer.refused {
-        0
-    } else {
-        1
+// 1 where the set of the name "n" and byte i from 0x21 on is done, more than any count where it was refused and changed card or chip.
+fn fill_one(i: usize, args: Args, bench: &mut Bench) -> u64 {
+    let name = [b'n', low_byte(i.wrapping_add(0x21))];
+    put(bench.reg_mut(NAME), 0, &name);
+    let mut named = args;
+    named.values[0] = 2;
+    match checked_call(Call::Set, named, bench).outcome {
+        Outcome::Done => 1,
+        Outcome::Refused => 0,
+        Outcome::Changed => MIXED,
     }
-}
-
-fn fill_names(n: usize, args: Args, env: Env, mem: &mut [u8]) -> u64 {
-    let mut done: u64 = 0;
-    let mut i = 0;
-    while i < n {
-        done = wrapping_add_u64(done, fill_one(i, args, env, mem));
-        i += 1;
-    }
-    done
 }
 
 // How many of n sets are done. The names go up to "n~", the last before the byte 0x7f, which no name has.
-pub fn fill(args: Args, env: Env, mem: &mut [u8]) -> Answer {
+pub fn fill(args: Args, bench: &mut Bench) -> Option<Answer> {
     let n = args.values[0];
     if 94 < n {
-        return Answer::unreadable();
+        return None;
     }
-    Answer::of(1, fill_names(n, args, env, mem), 0, 0)
+    let mut done = 0u64;
+    for i in 0..n {
+        done = done.wrapping_add(fill_one(i, args, bench));
+    }
+    Some(Answer::of(&[done]))
 }

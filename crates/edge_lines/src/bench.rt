@@ -1,0 +1,313 @@
+// What lasts from line to line, and the words that prepare it.
+ghost use Rattle.std.specs.Prelude.{◌+◌, ◌≤◌};
+
+use crate::areas::{flip, flip_byte, front, put, span};
+use crate::args::Args;
+use crate::place::Place;
+use crate::print;
+use crate::values::{read_bytes, some};
+use crate::words::Setup;
+use buffers::parts::array;
+use text::parts::field;
+
+pub const CHIP: usize = 37960;
+
+// Card and chip together.
+pub const MEDIA: usize = 43290;
+
+const REGISTERS: usize = 216450;
+
+const MEMORY: usize = 228738;
+
+// The registers of a line's arguments come first; the name of a call that is tried stands in the first of them.
+pub const NAME: usize = 0;
+
+pub const KEY: usize = 6;
+
+pub const IV: usize = 7;
+
+pub const ATTRIBUTES: usize = 8;
+
+// The buffer that a call is lent.
+pub const LENT: usize = 9;
+
+pub const HANDLE: usize = 10;
+
+pub const STAGING: usize = 11;
+
+// How many bytes card and chip had when they were copied.
+#[derive(Clone, Copy)]
+pub struct Kept {
+    pub card: usize,
+    pub chip: usize,
+}
+
+// One buffer has all bytes: the card, the chip, four copies of both, and twelve registers. A card and a chip have room for 65 slots each, one more than a
+// call takes. A line that cannot be read may leave a length that is past the room; a part of so many bytes is what `areas` makes of it.
+#[derive(Drop)]
+pub struct Bench {
+    bytes: [u8; MEMORY],
+    lens: Lens,
+    kept: [Option<Kept>; 4],
+    key: usize,
+    iv: usize,
+}
+
+// How many bytes each place has.
+#[derive(Clone, Copy)]
+struct Lens {
+    card: usize,
+    chip: usize,
+    handle: usize,
+    staging: usize,
+}
+
+// Where register k begins.
+fn reg_at(k: usize) -> usize
+    ensures { result + 1024 ≤ 228738 }
+{
+    REGISTERS + k % 12 * 1024
+}
+
+// Where the bytes of a place begin.
+pub fn place_at(place: Place) -> usize {
+    match place {
+        Place::Card => 0,
+        Place::Chip => CHIP,
+        Place::Handle => reg_at(HANDLE),
+        Place::Staging => reg_at(STAGING),
+    }
+}
+
+// Where a copy begins.
+fn copy_at(copy: usize) -> usize
+    ensures { result ≤ 173160 }
+{
+    MEDIA + copy % 4 * MEDIA
+}
+
+impl Bench {
+    pub fn new() -> Bench {
+        let mut bench = Bench {
+            bytes: [0; MEMORY],
+            lens: Lens {
+                card: 0,
+                chip: 0,
+                handle: 88,
+                staging: 0,
+            },
+            kept: [None; 4],
+            key: 16,
+            iv: 8,
+        };
+        put(bench.reg_mut(KEY), 0, b"the device's key");
+        put(bench.reg_mut(IV), 0, b"the iv 8");
+        bench
+    }
+
+    // The first bytes of register k.
+    pub fn reg(&self, k: usize, n: usize) -> &[u8] {
+        span(&self.bytes, reg_at(k), n)
+    }
+
+    // All of register k.
+    pub fn reg_mut(&mut self, k: usize) -> &mut [u8] {
+        let from = reg_at(k);
+        &mut self.bytes[from..from + 1024]
+    }
+
+    // The bytes of argument i.
+    pub fn arg(&self, args: Args, i: usize) -> &[u8] {
+        self.reg(i, args.values[i % 6])
+    }
+
+    // The first N bytes of register k.
+    pub fn first<const N: usize>(&self, k: usize) -> [u8; N] {
+        let mut bytes = [0u8; N];
+        put(&mut bytes, 0, self.reg(k, N));
+        bytes
+    }
+
+    pub fn card(&self) -> &[u8] {
+        span(&self.bytes, 0, self.lens.card)
+    }
+
+    pub fn chip(&self) -> &[u8] {
+        span(&self.bytes, CHIP, self.lens.chip)
+    }
+
+    pub fn key(&self) -> &[u8] {
+        self.reg(KEY, self.key)
+    }
+
+    pub fn iv(&self) -> &[u8] {
+        self.reg(IV, self.iv)
+    }
+
+    pub fn staging(&self) -> &[u8] {
+        self.reg(STAGING, self.lens.staging)
+    }
+
+    // All bytes of card and chip.
+    pub fn media(&self) -> [u8; MEDIA] {
+        array::<MEDIA>(&self.bytes[..MEDIA])
+    }
+
+    pub fn set_media(&mut self, card: &[u8], chip: &[u8]) {
+        put(&mut self.bytes, 0, card);
+        put(&mut self.bytes, CHIP, chip);
+    }
+
+    pub fn len(&self, place: Place) -> usize {
+        match place {
+            Place::Card => self.lens.card,
+            Place::Chip => self.lens.chip,
+            Place::Handle => self.lens.handle,
+            Place::Staging => self.lens.staging,
+        }
+    }
+
+    fn set_len(&mut self, place: Place, n: usize) {
+        match place {
+            Place::Card => self.lens.card = n,
+            Place::Chip => self.lens.chip = n,
+            Place::Handle => self.lens.handle = n,
+            Place::Staging => self.lens.staging = n,
+        }
+    }
+
+    // Where an index of a place is, if n bytes stand there from it on.
+    pub fn index(&self, place: Place, at: usize, n: usize) -> Option<usize> {
+        let len = self.len(place);
+        if at <= len && n <= len - at {
+            Some(place_at(place).wrapping_add(at))
+        } else {
+            None
+        }
+    }
+
+    // n bytes from an index of a place on.
+    pub fn at(&self, place: Place, at: usize, n: usize) -> &[u8] {
+        span(&self.bytes, place_at(place).wrapping_add(at), n)
+    }
+
+    // How many bytes card and chip had in a copy.
+    pub fn kept(&self, copy: usize) -> Option<Kept> {
+        self.kept.get(copy).copied().flatten()
+    }
+
+    // Whether card and chip have these bytes of a copy.
+    pub fn same_card(&self, copy: usize, kept: Kept) -> bool {
+        let from = copy_at(copy);
+        self.lens.card == kept.card && self.card() == span(&self.bytes, from, kept.card)
+    }
+
+    pub fn same_chip(&self, copy: usize, kept: Kept) -> bool {
+        let from = copy_at(copy) + CHIP;
+        self.lens.chip == kept.chip && self.chip() == span(&self.bytes, from, kept.chip)
+    }
+
+    // The byte at an index of all, or 0.
+    pub fn byte(&self, at: usize) -> u8 {
+        self.bytes.get(at).copied().unwrap_or(0)
+    }
+
+    pub fn flip_byte(&mut self, at: usize, mask: u8) {
+        flip_byte(&mut self.bytes, at, mask);
+    }
+
+    fn slots(&mut self, card: usize, chip: usize) -> bool {
+        self.bytes[..MEDIA].fill(0);
+        self.lens.card = card % 66 * 584;
+        self.lens.chip = chip % 66 * 82;
+        card < 66 && chip < 66
+    }
+
+    // The bytes of a card or a chip are read where they stand.
+    fn read_card(&mut self, text: &[u8]) -> bool {
+        let read = read_bytes(text, &mut self.bytes[..CHIP]);
+        self.lens.card = some(read);
+        read.is_ok()
+    }
+
+    fn read_chip(&mut self, text: &[u8]) -> bool {
+        let read = read_bytes(text, &mut self.bytes[CHIP..MEDIA]);
+        self.lens.chip = some(read);
+        read.is_ok()
+    }
+
+    // Bytes written, or bits inverted, from an index on.
+    fn change(&mut self, flips: bool, args: Args) -> bool {
+        let n = args.values[2];
+        let Some(at) = self.index(args.place, args.values[1], n) else {
+            return false;
+        };
+        let mut data = [0u8; 1024];
+        put(&mut data, 0, self.arg(args, 2));
+        if flips {
+            flip(&mut self.bytes, at, front(&data, n));
+            return true;
+        }
+        put(&mut self.bytes, at, front(&data, n))
+    }
+
+    fn copy(&mut self, from: usize, to: usize, n: usize) -> bool {
+        let mut bytes = [0u8; MEDIA];
+        let read = put(&mut bytes, 0, span(&self.bytes, from, n));
+        put(&mut self.bytes, to, front(&bytes, n)) && read
+    }
+
+    fn keep(&mut self, copy: usize) -> bool {
+        let kept = Kept {
+            card: self.lens.card,
+            chip: self.lens.chip,
+        };
+        let Some(place) = self.kept.get_mut(copy) else {
+            return false;
+        };
+        *place = Some(kept);
+        self.copy(0, copy_at(copy), MEDIA)
+    }
+
+    fn put_back(&mut self, place: Place, copy: usize) -> bool {
+        let Some(kept) = self.kept(copy) else {
+            return false;
+        };
+        let (n, base) = match place {
+            Place::Card | Place::Handle => (kept.card, 0),
+            Place::Chip | Place::Staging => (kept.chip, CHIP),
+        };
+        if MEDIA <= n {
+            return false;
+        }
+        self.set_len(place, n);
+        self.copy(copy_at(copy) + base, base, n)
+    }
+
+    // Whether a line that prepares could be carried out.
+    pub fn prepare(&mut self, word: Setup, line: &[u8], args: Args) -> bool {
+        let n = args.values[0];
+        match word {
+            Setup::Slots => return self.slots(n, args.values[1]),
+            Setup::Card => return self.read_card(field(line, 1)),
+            Setup::Chip => return self.read_chip(field(line, 1)),
+            Setup::Key => self.key = n,
+            Setup::Iv => self.iv = n,
+            Setup::Attributes => return n == 20,
+            Setup::Handle => return n == 88,
+            Setup::Staging => {
+                self.lens.staging = n;
+                return n <= 512;
+            }
+            Setup::Poke => return self.change(false, args),
+            Setup::Flip => return self.change(true, args),
+            Setup::Keep => return self.keep(n),
+            Setup::Put => return self.put_back(args.place, args.values[1]),
+            Setup::Say => {
+                print::text(field(line, 1));
+                print::text(b"\n");
+            }
+        }
+        true
+    }
+}
