@@ -3,7 +3,9 @@ ghost use Rattle.std.specs.Prelude.{◌≡◌, [], ◌∷◌};
 ghost use Rattle.mix.specs.Arrays as Arrays;
 ghost use Rattle.mix.specs.Calls as Mixes;
 
+use mix::arrays::Decoded;
 use mix::{arrays, find, persist};
+use store::status::number;
 
 #[unsafe(no_mangle)]
 pub extern "C" fn securestore_store_mix(
@@ -17,7 +19,9 @@ pub extern "C" fn securestore_store_mix(
 ) -> u32
     ensures { record { answer = record { status = result; numbers = []; output = [] }; after = record { kv = kv.new; rbp = rbp.new } } ≡ Mixes.store_encoded_mix kv.old rbp.old device_key.now name.now flags iv.now mix.now }
 {
-    persist::store_encoded_mix(kv, rbp, device_key, name, flags, iv, mix)
+    number(persist::store_encoded_mix(
+        kv, rbp, device_key, name, flags, iv, mix,
+    ))
 }
 
 #[unsafe(no_mangle)]
@@ -32,8 +36,8 @@ pub extern "C" fn securestore_find_mix(
     ensures { record { status = result; numbers = count.new ∷ []; output = mix_buf.new } ≡ Mixes.find_encoded_mix kv.now rbp.now device_key.now session_id mix_buf.old }
 {
     let answer = find::find_encoded_mix(kv, rbp, device_key, session_id, mix_buf);
-    *count = answer.count;
-    answer.status
+    *count = answer.unwrap_or(0);
+    number(answer)
 }
 
 #[unsafe(no_mangle)]
@@ -48,8 +52,8 @@ pub extern "C" fn securestore_encode_mix(
     ensures { record { status = result; numbers = count.new ∷ []; output = mix_buf.new } ≡ Arrays.encode_sends session_id tags.now levels.now pans.now mix_buf.old }
 {
     let answer = arrays::encode_sends(session_id, tags, levels, pans, mix_buf);
-    *count = answer.count;
-    answer.status
+    *count = answer.unwrap_or(0);
+    number(answer)
 }
 
 #[unsafe(no_mangle)]
@@ -64,7 +68,11 @@ pub extern "C" fn securestore_decode_mix(
     ensures { record { status = result; session = session_id.new; count = sends.new; arrays = record { tags = tags.new; levels = levels.new; pans = pans.new } } ≡ Arrays.decode_sends mix.now (record { tags = tags.old; levels = levels.old; pans = pans.old }) }
 {
     let answer = arrays::decode_sends(mix, tags, levels, pans);
-    *session_id = answer.session_id;
-    *sends = answer.count;
-    answer.status
+    let decoded = answer.unwrap_or(Decoded {
+        session_id: 0,
+        count: 0,
+    });
+    *session_id = decoded.session_id;
+    *sends = decoded.count;
+    number(answer)
 }
