@@ -1,6 +1,6 @@
 // Keys kept as records under their identifiers.
-ghost use Rattle.std.specs.Prelude.{◌≡◌, ◌≢◌, [], ◌∷◌, IfErr};
-ghost use Rattle.store.specs.Answers.{code, status_of, count_of};
+ghost use Rattle.std.specs.Prelude.{◌≡◌, [], ◌∷◌};
+ghost use Rattle.store.specs.Answers.{status_of, count_of};
 ghost use Rattle.spec.specs.Name.{key_name};
 ghost use Rattle.spec.specs.Calls.{store_set, store_get};
 ghost use Rattle.keys.specs.Calls.{save_key, load_key};
@@ -9,7 +9,7 @@ use crate::key_file::KeyAttributes;
 use crate::{format, key_file, key_name, parse};
 use buffers::parts;
 use store::status::Refusal;
-use store::{get, set, status};
+use store::{get, set};
 
 // Set and get with the identifier in the name's place.
 fn set_key(
@@ -35,16 +35,11 @@ fn get_key(
     key_id: u32,
     file: &mut [u8],
 ) -> Result<usize, Refusal>
-    ensures answer { record { status = status_of result; numbers = count_of result ∷ []; output = file.new } ≡ (store_get kv.now rbp.now device_key.now (key_name key_id) 0 file.old).answer }
-    ensures refused { IfErr result (λ e. code e ≢ 0) }
+    ensures { record { status = status_of result; numbers = count_of result ∷ []; output = file.new } ≡ (store_get kv.now rbp.now device_key.now (key_name key_id) 0 file.old).answer }
 {
     let mut digits = [0u8; 16];
     let name = key_name::key_name(key_id, &mut digits);
-    let answer = get::get(kv, rbp, device_key, name, 0, file);
-    if status::number(answer) == status::OK {
-        return Ok(answer.unwrap_or(0));
-    }
-    answer
+    get::get(kv, rbp, device_key, name, 0, file)
 }
 
 // 01: "keeping"

@@ -9,6 +9,7 @@ use Rattle.spec.specs.Status.{first_of, Answer, buffer_answer, bytes_given}
 use Rattle.spec.proofs.Status.{answer-refused, answer-done}
 use Rattle.buffers.proofs.Lists.{in_front}
 use Rattle.keys.specs.Calls.{key_record, load_tests, load_key}
+use Rattle.store.proofs.Tests.{refused_number}
 use Rattle.keys.proofs.Taken.{handed_on}
 use Rattle.keys.proofs.Written.{short_buffer}
 use Rattle.keys.proofs.Loaded.{not-got, not-a-file, loads, count-within-file, file-valid, file-invalid}
@@ -27,20 +28,20 @@ returns-in_err-count c =
     let e = c.in_err-count.field-0.0 in
     let g : Answer = record { status = code e; numbers = 0 ∷ []; output = c.get_key.new.file } in
     let buf = a.key_buf.now in
-    let refused = not-got a.kv.now a.rbp.now a.device_key.now a.key_id buf c.if-key_buf-lt-MAX_KEY_FILE.false g c.in_err-count.ensures.answer c.in_err-count.ensures.refused in
-    rw (handed_on e c.from_residual.result c.from_residual.ensures.1) (answer-refused (code e) _ _ buf refused c.in_err-count.ensures.refused)
+    let refused = not-got a.kv.now a.rbp.now a.device_key.now a.key_id buf c.if-key_buf-lt-MAX_KEY_FILE.false g c.in_err-count.ensures (refused_number e) in
+    rw (handed_on e c.from_residual.result c.from_residual.ensures.1) (answer-refused (code e) _ _ buf refused (refused_number e))
 
 pub slice_bounds-file-end : goal.slice_bounds-file-end
 unfolding key_record
 slice_bounds-file-end c =
     let a = c.args in
-    count-within-file a.kv.now a.rbp.now a.device_key.now a.key_id _ _ c.in_ok-count.ensures.answer c.get_key.auto.file
+    count-within-file a.kv.now a.rbp.now a.device_key.now a.key_id _ _ c.in_ok-count.ensures c.get_key.auto.file
 
 pub slice_bounds-found-end : goal.slice_bounds-found-end
 unfolding key_record
 slice_bounds-found-end c =
     let a = c.args in
-    let fits = count-within-file a.kv.now a.rbp.now a.device_key.now a.key_id _ _ c.in_ok-count.ensures.answer c.get_key.auto.file in
+    let fits = count-within-file a.kv.now a.rbp.now a.device_key.now a.key_id _ _ c.in_ok-count.ensures c.get_key.auto.file in
     sym (length-take-le c.in_ok-count.count c.get_key.new.file fits)
 
 pub returns-in_err-parse_key_file : goal.returns-in_err-parse_key_file
@@ -53,7 +54,7 @@ returns-in_err-parse_key_file c =
     let buf = a.key_buf.now in
     let room = c.if-key_buf-lt-MAX_KEY_FILE.false in
     let invalid = file-invalid (bytes_given g) e c.in_err-parse_key_file.ensures in
-    let refused = not-a-file a.kv.now a.rbp.now a.device_key.now a.key_id buf room g c.in_ok-count.ensures.answer refl invalid.0 in
+    let refused = not-a-file a.kv.now a.rbp.now a.device_key.now a.key_id buf room g c.in_ok-count.ensures refl invalid.0 in
     rw (handed_on e r.result r.ensures.1, invalid.1) (answer-refused 13 _ _ buf refused (omega arith))
 
 pub returns : goal.returns
@@ -65,9 +66,9 @@ returns c =
     let g : Answer = record { status = 0; numbers = count ∷ []; output = file } in
     let buf = a.key_buf.now in
     let valid = file-valid (bytes_given g) _ c.in_ok-parse_key_file.ensures in
-    let done = loads a.kv.now a.rbp.now a.device_key.now a.key_id buf c.if-key_buf-lt-MAX_KEY_FILE.false g c.in_ok-count.ensures.answer refl valid in
+    let done = loads a.kv.now a.rbp.now a.device_key.now a.key_id buf c.if-key_buf-lt-MAX_KEY_FILE.false g c.in_ok-count.ensures refl valid in
     let out = in_front _ (bytes_given g) buf _ c.paste.ensures refl in
-    let fits = count-within-file a.kv.now a.rbp.now a.device_key.now a.key_id count file c.in_ok-count.ensures.answer c.get_key.auto.file in
+    let fits = count-within-file a.kv.now a.rbp.now a.device_key.now a.key_id count file c.in_ok-count.ensures c.get_key.auto.file in
     let size : count ≡ length (take count file) = sym (length-take-le count file fits) in
     let status = first_of (load_tests a.kv.now a.rbp.now a.device_key.now a.key_id buf) in
-    answer-done status count (bytes_given g) buf _ done size out ∙ ap (λ (x : Answer). buffer_answer status (bytes_given x) buf) c.in_ok-count.ensures.answer
+    answer-done status count (bytes_given g) buf _ done size out ∙ ap (λ (x : Answer). buffer_answer status (bytes_given x) buf) c.in_ok-count.ensures
