@@ -13,7 +13,7 @@ use crate::AreaKind;
 use crate::slot::{self, Slot};
 use buffers::{compare, parts};
 
-pub fn slot_count(kind: AreaKind, area: &[u8]) -> usize
+fn slot_count(kind: AreaKind, area: &[u8]) -> usize
     ensures { result ≡ slot_count (format_of kind) area.now }
 {
     area.len() / kind.slot_size()
@@ -169,7 +169,7 @@ impl<'a> Area<'a> {
         }
     }
 
-    // The name of a slot in use.
+    // The name of a slot that is used.
     pub fn name_at(&self, i: usize) -> &'a [u8]
         requires { (i < slot_count (format_of self.now.kind) self.now.bytes.now) × (slot_used (format_of self.now.kind) (slot_at (format_of self.now.kind) self.now.bytes.now i) ≡ true) }
         ensures { result.now ≡ slot_name (format_of self.now.kind) (slot_at (format_of self.now.kind) self.now.bytes.now i) }
@@ -258,19 +258,7 @@ pub fn erase_at(kind: AreaKind, area: &mut [u8], found: Found)
     take_first(kind, &mut area[start..end]);
 }
 
-// ---- the same for callers that have kind and bytes apart
-
-pub fn prefix_at(kv: &[u8], prefix: &[u8], i: usize) -> bool
-    requires { (sized kv_format kv.now ≡ true) × (intact kv_format kv.now ≡ true) × (i < slot_count kv_format kv.now) }
-    ensures { result ≡ slot_has_prefix prefix.now (slot_at kv_format kv.now i) }
-{
-    Area {
-        kind: AreaKind::Kv,
-        bytes: kv,
-    }
-    .prefix_at(prefix, i)
-}
-
+// What is held for a name that is known to be held, of kind and bytes apart; nothing, where it is not held. `Area::payload` tells the two apart.
 pub fn payload_at<'a>(kind: AreaKind, area: &'a [u8], found: Found) -> &'a [u8]
     requires { (sized (format_of kind) area.now ≡ true) × (CanRead (format_of kind) area.now found) }
     ensures { result.now ≡ payload_at (format_of kind) area.now found }
@@ -281,12 +269,4 @@ pub fn payload_at<'a>(kind: AreaKind, area: &'a [u8], found: Found) -> &'a [u8]
     } else {
         &area[0..0]
     }
-}
-
-pub fn name_at<'a>(kind: AreaKind, area: &'a [u8], i: usize) -> &'a [u8]
-    requires { (sized (format_of kind) area.now ≡ true) × (i < slot_count (format_of kind) area.now) × (slot_used (format_of kind) (slot_at (format_of kind) area.now i) ≡ true) }
-    ensures { result.now ≡ slot_name (format_of kind) (slot_at (format_of kind) area.now i) }
-{
-    let bytes = slot_at(kind, area, i);
-    Slot { kind, bytes }.name()
 }
