@@ -1,7 +1,7 @@
 -- A get and an info: from the judgement to what they answer. Assumes nothing.
 use mathlib.Core.Path.{◌≡◌, refl, sym, ap, ◌∙◌}
 use mathlib.Core.Logic.{◌≢◌}
-use mathlib.Core.Bool.{true, not}
+use mathlib.Core.Bool.{not}
 use mathlib.Core.List.{List, [], ◌∷◌, ◌++◌}
 use mathlib.Core.Option.{Option, some}
 use Prim.Native.Nat.{ℕ, ◌≤◌}
@@ -10,8 +10,8 @@ use borrow.Author.Tests.{eqb-true, leb-true}
 use Rattle.buffers.proofs.Split.{not-false-is}
 use Rattle.spec.specs.Status.{ok, Test, ◌when◌, first_of, Answer, answer_of}
 use Rattle.spec.specs.Name.{valid_name}
-use Rattle.spec.specs.Record.{require_replay_protection, well_formed, data_size_of, flags_of}
-use Rattle.spec.specs.Area.{kv_format, rbp_format, sized, lookup}
+use Rattle.spec.specs.Record.{require_replay_protection, data_size_of, flags_of}
+use Rattle.spec.specs.Area.{kv_format, rbp_format, lookup}
 use Rattle.spec.specs.Interleaving.{Outcome}
 use Rattle.spec.specs.Request.{Binding}
 use Rattle.spec.specs.Decisions.{key_sized, record_of, get_held, read_count, read_output, get_request, get_info_request}
@@ -19,10 +19,7 @@ use Rattle.spec.specs.Calls.{Areas, areas, binding_of, store_world, store_get, s
 use Rattle.spec.specs.Demand2.{Undamaged}
 use Rattle.spec.proofs.World.{run-done, run-refused, Accepted, accepted}
 use Rattle.spec.proofs.Status as status
-use Rattle.spec.proofs.Get.{get_exact}
-use Rattle.slots.specs.Found.{found_in, CanRead, payload_at}
 use Rattle.store.specs.Parts.{get_early, keyless_tests, keyed_tests, Judgement, judged, got_of}
-use Rattle.store.proofs.Judged.{readable, payload-is, all-passed, kv_found}
 
 abbrev answer-of : Outcome Areas Answer → Answer
 answer-of o = o.answer
@@ -74,38 +71,6 @@ module _ (kv rbp key name : List ℕ) where
   module _ (offset : ℕ) where
     abbrev pub get_rest : List Test
     get_rest = get_held require_replay_protection key name offset (binding_of kv rbp name)
-
-    module _ (j : Judgement) (e : j ≡ judged kv rbp name first get_rest) where
-      status_is : j.status ≡ first_of (first ++ get_rest)
-      status_is = ap (λ (x : Judgement). x.status) e
-
-      -- what a judgement without refusal says; p is the record that was found
-      pub record GetAccepted : Type 0 where
-        pub passed : first_of (first ++ get_rest) ≡ ok
-        pub kv_found : (sized kv_format kv ≡ true) × CanRead kv_format kv j.found
-        pub valid : (p : List ℕ) → p ≡ payload_at kv_format kv j.found → well_formed p ≡ true
-        pub stored : (p : List ℕ) → p ≡ payload_at kv_format kv j.found → p ≡ record_of (lookup kv_format kv name)
-
-      module _ (h : j.status ≡ ok) where
-        done : first_of (first ++ get_rest) ≡ ok
-        done = all-passed kv rbp name first get_rest j e h
-
-        record_found : j.found ≡ found_in kv_format kv name
-        unfolding get_held
-        record_found = kv_found kv rbp name first get_rest j e h refl
-
-        pub get_accepted : GetAccepted
-        unfolding store_get
-        get_accepted =
-            let r = (get_exact kv rbp key name offset []).condition.0 done in
-            let u = r.undamaged in
-            let stored_is : record_of (lookup kv_format kv name) ≡ r.r = ap record_of r.found in
-            record {
-              passed = done;
-              kv_found = (u.kv_sized, readable kv_format kv name j.found record_found u.kv_sized u.kv_intact);
-              valid = λ p q. rw (payload-is kv_format kv name j.found record_found u.kv_intact p q, stored_is) r.valid;
-              stored = payload-is kv_format kv name j.found record_found u.kv_intact;
-            }
 
     -- a get that is refused: n is what its tests decide
     pub not_got : (output : List ℕ) (n : ℕ) → n ≡ first_of (first ++ get_rest) → n ≢ ok
@@ -160,10 +125,12 @@ module _ (kv rbp key name : List ℕ) where
         ap (λ (s : ℕ). record { status = s; numbers = 0 ∷ 0 ∷ []; output = [] }) z
         ∙ sym (ap answer-of (run-refused store_world (areas kv rbp) (get_info_request require_replay_protection key name) (λ k. h (z ∙ k))))
 
-    pub info-done : GetAccepted 0 j e → (p : List ℕ) → p ≡ payload_at kv_format kv j.found → (n f : ℕ) → n ≡ data_size_of p → f ≡ flags_of p
+    -- r is the record that the card holds
+    pub info-done : j.status ≡ ok → (r : List ℕ) → lookup kv_format kv name ≡ some r → (n f : ℕ) → n ≡ data_size_of r → f ≡ flags_of r
         → record { status = ok; numbers = n ∷ f ∷ []; output = [] } ≡ (store_get_info kv rbp key name).answer
     unfolding store_get_info
-    info-done a p q n f c g =
-        let w = a.stored p q in
+    info-done h r q n f c g =
+        let w : r ≡ record_of (lookup kv_format kv name) = sym (ap record_of q) in
+        let passed = sym (ap (λ (x : Judgement). x.status) e) ∙ h in
         (λ i. record { status = ok; numbers = (c ∙ ap data_size_of w) i ∷ (g ∙ ap flags_of w) i ∷ []; output = [] })
-        ∙ sym (ap answer-of (run-done store_world (areas kv rbp) (get_info_request require_replay_protection key name) a.passed))
+        ∙ sym (ap answer-of (run-done store_world (areas kv rbp) (get_info_request require_replay_protection key name) passed))

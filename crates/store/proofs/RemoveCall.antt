@@ -8,18 +8,18 @@ use Rattle.buffers.specs.Bytes.{is_some}
 use Rattle.buffers.proofs.Split.{not_some, is-some}
 use Rattle.spec.specs.Status.{ok, Test, ◌when◌, refuse_if, first_of}
 use Rattle.spec.specs.Name.{valid_name}
-use Rattle.spec.specs.Record.{require_replay_protection, well_formed, flags_of}
-use Rattle.spec.specs.Area.{kv_format, rbp_format, sized, lookup, keep, clear, erase_slot, edit_area}
+use Rattle.spec.specs.Record.{require_replay_protection, flags_of}
+use Rattle.spec.specs.Area.{kv_format, rbp_format, lookup, keep, clear, erase_slot, edit_area}
 use Rattle.spec.specs.Request.{Request}
 use Rattle.spec.specs.Decisions.{record_of, remove_held, remove_effect, remove_request}
 use Rattle.spec.specs.Calls.{Areas, areas, store_world, store_remove}
 use Rattle.spec.specs.Demand2.{Undamaged, Removable}
 use Rattle.spec.proofs.World.{run-done, run-refused, accepted}
 use Rattle.spec.proofs.Remove.{remove_exact}
-use Rattle.slots.specs.Found.{found_in, CanRead, payload_at, erase_at}
+use Rattle.slots.specs.Found.{found_in, CanRead, erase_at}
 use Rattle.slots.proofs.Edits.{erase-found, erase-absent}
 use Rattle.store.specs.Parts.{Judgement, early, remove_early, judged, record_erased}
-use Rattle.store.proofs.Judged.{Left, held-is, readable, payload-is, all-passed, kv_found, rbp_found}
+use Rattle.store.proofs.Judged.{Left, held-is, readable, all-passed, kv_found, rbp_found}
 
 module _ (kv rbp name : List ℕ) where
   abbrev first : List Test
@@ -46,14 +46,13 @@ module _ (kv rbp name : List ℕ) where
         let z = ap (λ (x : Judgement). x.status) e in
         ap (λ (s : ℕ). Left s (areas kv rbp)) z ∙ sym (run-refused store_world (areas kv rbp) request (λ k. h (z ∙ k)))
 
-    -- what a judgement without refusal says, and what the call then is; p is the record that was found
+    -- what a judgement without refusal says, and what the call then is
     pub record RemoveAccepted : Type 0 where
-      pub kv_found : (sized kv_format kv ≡ true) × CanRead kv_format kv j.found
-      pub valid : (p : List ℕ) → p ≡ payload_at kv_format kv j.found → well_formed p ≡ true
       pub undamaged : Undamaged kv rbp
       pub held : j.found.held ≡ true
+      pub kv_found : CanRead kv_format kv j.found
       pub rbp_found : CanRead rbp_format rbp j.entry
-      pub done : (p : List ℕ) → p ≡ payload_at kv_format kv j.found → (flags : ℕ) → flags ≡ flags_of p
+      pub done : (flags : ℕ) → flags ≡ flags_of (record_of (lookup kv_format kv name))
           → (after : Areas) → after ≡ record_erased kv rbp j.found j.entry flags → Left ok after ≡ store_remove kv rbp name
 
     module _ (h : j.status ≡ ok) where
@@ -92,11 +91,10 @@ module _ (kv rbp name : List ℕ) where
       tag_erased false = refl
       tag_erased true = held_erased (is_some (lookup rbp_format rbp name)) refl
 
-      erased : (p : List ℕ) → p ≡ payload_at kv_format kv j.found → (flags : ℕ) → flags ≡ flags_of p
+      erased : (flags : ℕ) → flags ≡ flags_of stored
           → (after : Areas) → after ≡ record_erased kv rbp j.found j.entry flags → Left ok after ≡ store_remove kv rbp name
       unfolding store_remove remove_effect
-      erased p q flags f after w =
-          let g = f ∙ ap flags_of (payload-is kv_format kv name j.found record_found removable.undamaged.kv_intact p q) in
+      erased flags g after w =
           let known = erase-found kv_format kv removable.undamaged.kv_intact name is_held in
           let tag = tag_erased (require_replay_protection (flags_of stored)) in
           ap (Left ok) w
@@ -108,12 +106,10 @@ module _ (kv rbp name : List ℕ) where
       pub remove_accepted : RemoveAccepted
       remove_accepted =
           let u = removable.undamaged in
-          let stored_is : stored ≡ removable.r = ap record_of removable.found in
           record {
-            kv_found = (u.kv_sized, readable kv_format kv name j.found record_found u.kv_sized u.kv_intact);
-            valid = λ p q. ap well_formed (payload-is kv_format kv name j.found record_found u.kv_intact p q ∙ stored_is) ∙ removable.valid;
             undamaged = u;
             held = held-is kv_format kv name j.found record_found ∙ is_held;
+            kv_found = readable kv_format kv name j.found record_found u.kv_sized u.kv_intact;
             rbp_found = readable rbp_format rbp name j.entry entry_found u.rbp_sized u.rbp_intact;
             done = erased;
           }

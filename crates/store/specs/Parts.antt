@@ -106,7 +106,7 @@ pub record Judgement : Type 0 where
   pub found : Found
   pub entry : Found
 
-abbrev pub judgement : Judged → Judgement
+abbrev pub judgement : {A : Type 0} → Judged A → Judgement
 judgement j = record { status = status_of j.verdict; found = j.found; entry = j.entry }
 
 abbrev pub judged : List ℕ → List ℕ → Name → List Test → List Test → Judgement

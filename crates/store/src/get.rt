@@ -3,6 +3,7 @@ ghost use Rattle.std.specs.Prelude.{◌≡◌, true, [], ◌∷◌, ◌≤◌, l
 ghost use Rattle.std.proofs.Math.Option.{some};
 ghost use Rattle.cipher.specs.Device.{IsPrepared};
 ghost use Rattle.spec.specs.Record.{require_replay_protection, well_formed, data_size_of, flags_of};
+ghost use Rattle.spec.specs.Area.{kv_format, lookup};
 ghost use Rattle.spec.specs.Status.{ok, first_of};
 ghost use Rattle.spec.specs.Decisions.{get_held, read_count, read_output};
 ghost use Rattle.spec.specs.Calls.{binding_of, store_get, store_get_info};
@@ -20,7 +21,7 @@ use cipher::kdf::DeviceKey;
 use cipher::tables::Tables;
 use records::keys::Keys;
 use records::{flags as flag, mac, record};
-use slots::{AreaKind, areas, names};
+use slots::names;
 
 // 1 to 3: what a get asks before it looks the name up.
 pub fn early_status(kv: &[u8], rbp: &[u8], device_key: &[u8], name: &[u8]) -> Result<(), Refusal>
@@ -116,10 +117,16 @@ fn key_for(tables: &Tables, device_key: &[u8], stored: &[u8]) -> DeviceKey
     kdf::prepare_if(wanted, tables, parts::array::<16>(device_key))
 }
 
-// What a get decides of what the name has.
-fn verdict(device_key: &[u8], name: &[u8], offset: usize, held: Held<'_>) -> Result<(), Refusal>
+// What a get decides of what the name has: the record, where nothing refuses it.
+fn accepted_record<'a>(
+    device_key: &[u8],
+    name: &[u8],
+    offset: usize,
+    held: Held<'a>,
+) -> Result<&'a [u8], Refusal>
     requires { length device_key.now ≡ 16 }
-    ensures { status_of result ≡ first_of (get_held require_replay_protection device_key.now name.now offset (binding held.entry)) }
+    ensures tests { status_of result ≡ first_of (get_held require_replay_protection device_key.now name.now offset (binding held.entry)) }
+    ensures stored { IfOk result (λ r. (given held.entry.stored ≡ some r.now) × (well_formed r.now ≡ true)) }
 {
     let stored = keyless_status(held)?;
     let tables = Tables::new();
@@ -129,18 +136,26 @@ fn verdict(device_key: &[u8], name: &[u8], offset: usize, held: Held<'_>) -> Res
         device: &device,
         name,
     };
-    held_status(&keys, offset, stored, held.tag)
+    held_status(&keys, offset, stored, held.tag)?;
+    Ok(stored)
 }
 
-pub fn judge(kv: &[u8], rbp: &[u8], device_key: &[u8], name: &[u8], offset: usize) -> Judged
-    ensures { judgement result ≡ judged kv.now rbp.now name.now (get_early kv.now rbp.now device_key.now name.now) (get_held require_replay_protection device_key.now name.now offset (binding_of kv.now rbp.now name.now)) }
+pub fn judge<'a>(
+    kv: &'a [u8],
+    rbp: &'a [u8],
+    device_key: &[u8],
+    name: &[u8],
+    offset: usize,
+) -> Judged<&'a [u8]>
+    ensures judged { judgement result ≡ judged kv.now rbp.now name.now (get_early kv.now rbp.now device_key.now name.now) (get_held require_replay_protection device_key.now name.now offset (binding_of kv.now rbp.now name.now)) }
+    ensures stored { IfOk result.verdict (λ r. (lookup kv_format kv.now name.now ≡ some r.now) × (well_formed r.now ≡ true)) }
 {
     if let Err(refusal) = early_status(kv, rbp, device_key, name) {
         return judge::refused(refusal);
     }
     let looked = judge::look_up(kv, rbp, name);
     Judged {
-        verdict: verdict(device_key, name, offset, looked.held),
+        verdict: accepted_record(device_key, name, offset, looked.held),
         found: looked.found,
         entry: looked.entry,
     }
@@ -221,9 +236,7 @@ pub fn get(
 pub fn get_info(kv: &[u8], rbp: &[u8], device_key: &[u8], name: &[u8]) -> Result<Info, Refusal>
     ensures { record { status = status_of result; numbers = (value_or no_info result).data_size ∷ (value_or no_info result).flags ∷ []; output = [] } ≡ (store_get_info kv.now rbp.now device_key.now name.now).answer }
 {
-    let judged = judge(kv, rbp, device_key, name, 0);
-    judged.verdict?;
-    let stored = areas::payload_at(AreaKind::Kv, kv, judged.found);
+    let stored = judge(kv, rbp, device_key, name, 0).verdict?;
     Ok(Info {
         data_size: record::record_data_size(stored),
         flags: record::record_flags(stored),

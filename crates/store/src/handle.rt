@@ -8,13 +8,11 @@ use spec::incremental::IncSetHandle;
 pub fn encode_handle(handle: IncSetHandle) -> [u8; 88]
     ensures { result ≡ handle_bytes handle }
 {
-    let name = handle.name;
-    let iv = handle.iv;
     let mut b = [0u8; 88];
-    parts::paste(&mut b, 0, &name);
+    parts::paste(&mut b, 0, &handle.name);
     numbers::put_le_at(handle.name_len, &mut b, 64, 4);
     numbers::put_le_at(handle.flags, &mut b, 68, 4);
-    parts::paste(&mut b, 72, &iv);
+    parts::paste(&mut b, 72, &handle.iv);
     numbers::put_le_at(handle.final_data_size, &mut b, 80, 4);
     numbers::put_le_at(handle.offset, &mut b, 84, 4);
     b
@@ -23,10 +21,8 @@ pub fn encode_handle(handle: IncSetHandle) -> [u8; 88]
 pub fn decode_handle(b: [u8; 88]) -> IncSetHandle
     ensures { result ≡ handle_of b }
 {
-    let mut name = [0u8; 64];
-    name.copy_from_slice(&b[0..64]);
     IncSetHandle {
-        name,
+        name: parts::array::<64>(&b[0..64]),
         name_len: numbers::le_at(&b, 64, 4),
         flags: numbers::le_at(&b, 68, 4),
         iv: parts::array::<8>(&b[72..80]),

@@ -168,8 +168,6 @@ pub fn set_finalize(
 ) -> Result<(), Refusal>
     ensures { record { answer = record { status = status_of result; numbers = []; output = [] }; after = record { kv = kv.new; rbp = rbp.new } } ≡ store_set_finalize kv.old rbp.old device_key.now handle staging.now }
 {
-    let name = handle.name;
-    let iv = handle.iv;
     finalize_status(kv, rbp, device_key, handle, staging)?;
     let name_len = handle.name_len as usize;
     let held = handle.offset as usize;
@@ -177,9 +175,9 @@ pub fn set_finalize(
         kv,
         rbp,
         device_key,
-        &name[0..name_len],
+        &handle.name[0..name_len],
         handle.flags,
-        &iv,
+        &handle.iv,
         &staging[0..held],
     )
 }

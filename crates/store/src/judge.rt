@@ -64,18 +64,19 @@ pub(crate) fn look_up<'a>(kv: &'a [u8], rbp: &'a [u8], name: &[u8]) -> Looked<'a
     Looked { held, found, entry }
 }
 
-// A call's verdict, and where the name's slots on card and chip are, once the tests before the look-up have passed. The slots are promised of a name that
-// is refused after it was looked up too, so that they stand beside the verdict.
+// A call's verdict with what it gives, and where the name's slots on card and chip are, once the tests before the look-up have passed. The slots are promised
+// of a name that is refused after it was looked up too, so that they stand beside the verdict.
 #[derive(Clone, Copy)]
-pub struct Judged {
-    pub verdict: Result<(), Refusal>,
+pub struct Judged<T> {
+    pub verdict: Result<T, Refusal>,
     pub found: Found,
     pub entry: Found,
 }
 
 // A refusal before the name was looked up.
-pub(crate) fn refused(refusal: Refusal) -> Judged
-    ensures { judgement result ≡ record { status = code refusal; found = nowhere; entry = nowhere } }
+pub(crate) fn refused<T>(refusal: Refusal) -> Judged<T>
+    ensures verdict { result.verdict ≡ Err refusal }
+    ensures judged { judgement result ≡ record { status = code refusal; found = nowhere; entry = nowhere } }
 {
     let nowhere = Found { at: 0, held: false };
     Judged {

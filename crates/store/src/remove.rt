@@ -1,8 +1,9 @@
 // Remove: the name's slot is taken out, and with replay protection the chip's too.
-ghost use Rattle.std.specs.Prelude.{◌≡◌, true, []};
+ghost use Rattle.std.specs.Prelude.{◌≡◌, true, [], IfOk};
+ghost use Rattle.spec.specs.Record.{flags_of};
 ghost use Rattle.spec.specs.Area.{kv_format, rbp_format, lookup};
 ghost use Rattle.spec.specs.Status.{first_of};
-ghost use Rattle.spec.specs.Decisions.{remove_held};
+ghost use Rattle.spec.specs.Decisions.{record_of, remove_held};
 ghost use Rattle.spec.specs.Calls.{store_remove};
 ghost use Rattle.spec.specs.Demand2.{Undamaged};
 ghost use Rattle.slots.specs.Found.{CanRead};
@@ -16,10 +17,11 @@ use records::{flags as flag, record};
 use slots::areas::Found;
 use slots::{AreaKind, areas, names};
 
-// 6, 8, 7.
+// 6, 8, 7; else the record's flags.
 #[tactic(auto, unfolding(spec::specs::Status::refuse_if, spec::specs::Decisions::remove_held))]
-pub fn held_status(stored: Option<&[u8]>) -> Result<(), Refusal>
-    ensures { status_of result ≡ first_of (remove_held (given stored.entry)) }
+pub fn held_status(stored: Option<&[u8]>) -> Result<u32, Refusal>
+    ensures tests { status_of result ≡ first_of (remove_held (given stored.entry)) }
+    ensures flags { IfOk result (λ f. f ≡ flags_of (record_of (given stored.entry))) }
 {
     let Some(stored) = stored else {
         return Err(Refusal::NotFound);
@@ -27,10 +29,11 @@ pub fn held_status(stored: Option<&[u8]>) -> Result<(), Refusal>
     if !record::record_valid(stored) {
         return Err(Refusal::InvalidRecord);
     }
-    if flag::write_once(record::record_flags(stored)) {
+    let flags = record::record_flags(stored);
+    if flag::write_once(flags) {
         return Err(Refusal::AlreadyExists);
     }
-    Ok(())
+    Ok(flags)
 }
 
 // The record's slot is taken out, and with replay protection the chip's, where there is one.
@@ -45,8 +48,9 @@ pub fn erase_record(kv: &mut [u8], rbp: &mut [u8], found: Found, entry: Found, f
     }
 }
 
-pub fn judge(kv: &[u8], rbp: &[u8], name: &[u8]) -> Judged
-    ensures { judgement result ≡ judged kv.now rbp.now name.now (remove_early kv.now rbp.now name.now) (remove_held (lookup kv_format kv.now name.now)) }
+pub fn judge(kv: &[u8], rbp: &[u8], name: &[u8]) -> Judged<u32>
+    ensures judged { judgement result ≡ judged kv.now rbp.now name.now (remove_early kv.now rbp.now name.now) (remove_held (lookup kv_format kv.now name.now)) }
+    ensures flags { IfOk result.verdict (λ f. f ≡ flags_of (record_of (lookup kv_format kv.now name.now))) }
 {
     if let Err(refusal) = guard::early_status(kv, rbp, true, names::valid_name(name)) {
         return judge::refused(refusal);
@@ -63,8 +67,7 @@ pub fn remove(kv: &mut [u8], rbp: &mut [u8], name: &[u8]) -> Result<(), Refusal>
     ensures { record { answer = record { status = status_of result; numbers = []; output = [] }; after = record { kv = kv.new; rbp = rbp.new } } ≡ store_remove kv.old rbp.old name.now }
 {
     let judged = judge(kv, rbp, name);
-    judged.verdict?;
-    let flags = record::record_flags(areas::payload_at(AreaKind::Kv, kv, judged.found));
+    let flags = judged.verdict?;
     erase_record(kv, rbp, judged.found, judged.entry, flags);
     Ok(())
 }

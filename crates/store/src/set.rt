@@ -173,7 +173,7 @@ pub fn judge(
     flags: u32,
     iv: &[u8],
     data: &[u8],
-) -> Judged
+) -> Judged<()>
     ensures { judgement result ≡ judged kv.now rbp.now name.now (set_early kv.now rbp.now device_key.now name.now flags iv.now «data».now) (set_held require_replay_protection flags (binding_of kv.now rbp.now name.now) ++ space_tests require_replay_protection flags (binding_of kv.now rbp.now name.now) (room_of kv.now rbp.now)) }
 {
     if let Err(refusal) = early_status(kv, rbp, device_key, name, flags, iv, data) {

@@ -9,7 +9,7 @@ use Rattle.store.specs.declared.status.Refusal.{Refusal}
 use Rattle.store.specs.Answers.{status_of, value_or, no_info}
 use Rattle.store.specs.Parts.{judgement}
 use Rattle.store.proofs.Tests.{refused_number, handed_on}
-use Rattle.store.proofs.GetCall.{get_accepted, info-refused, info-done}
+use Rattle.store.proofs.GetCall.{info-refused, info-done}
 use Rattle.store.proofs.get.get_info.Goals as goal
 
 abbrev answer : Result Info Refusal → Answer
@@ -18,40 +18,25 @@ answer r = record { status = status_of r; numbers = (value_or no_info r).data_si
 abbrev refused : ℕ → Answer
 refused s = record { status = s; numbers = 0 ∷ 0 ∷ []; output = [] }
 
-pub returns-in_err-judged : goal.returns-in_err-judged
-returns-in_err-judged c =
+pub returns-in_err-stored : goal.returns-in_err-stored
+returns-in_err-stored c =
     let args = c.args in
-    let judge = c.judge-judged in
-    let was = ap status_of c.in_err-judged.was in
+    let judge = c.judge in
+    let was = ap status_of c.in_err-stored.was in
     ap answer (handed_on _ _ c.from_residual.ensures)
     ∙ ap refused (sym was)
-    ∙ info-refused args.kv.now args.rbp.now args.device_key.now args.name.now (judgement judge.result) judge.ensures (λ z. refused_number _ (sym was ∙ z))
-
-pub payload_at-stored-requires : goal.payload_at-stored-requires
-payload_at-stored-requires c =
-    let args = c.args in
-    let judge = c.judge-judged in
-    let a = get_accepted args.kv.now args.rbp.now args.device_key.now args.name.now 0 (judgement judge.result) judge.ensures (ap status_of c.in_ok-judged.was) in
-    a.kv_found
+    ∙ info-refused args.kv.now args.rbp.now args.device_key.now args.name.now (judgement judge.result) judge.ensures.judged (λ z. refused_number _ (sym was ∙ z))
 
 pub record_data_size-requires : goal.record_data_size-requires
-record_data_size-requires c =
-    let args = c.args in
-    let judge = c.judge-judged in
-    let a = get_accepted args.kv.now args.rbp.now args.device_key.now args.name.now 0 (judgement judge.result) judge.ensures (ap status_of c.in_ok-judged.was) in
-    a.valid _ c.payload_at-stored.ensures
+record_data_size-requires c = let seen = rw c.in_ok-stored.was at c.judge.ensures.stored in seen.1
 
 pub record_flags-requires : goal.record_flags-requires
-record_flags-requires c =
-    let args = c.args in
-    let judge = c.judge-judged in
-    let a = get_accepted args.kv.now args.rbp.now args.device_key.now args.name.now 0 (judgement judge.result) judge.ensures (ap status_of c.in_ok-judged.was) in
-    a.valid _ c.payload_at-stored.ensures
+record_flags-requires c = let seen = rw c.in_ok-stored.was at c.judge.ensures.stored in seen.1
 
 pub returns : goal.returns
 returns c =
     let args = c.args in
-    let judge = c.judge-judged in
-    let a = get_accepted args.kv.now args.rbp.now args.device_key.now args.name.now 0 (judgement judge.result) judge.ensures (ap status_of c.in_ok-judged.was) in
-    info-done args.kv.now args.rbp.now args.device_key.now args.name.now (judgement judge.result) judge.ensures a
-    _ c.payload_at-stored.ensures c.record_data_size.result c.record_flags.result c.record_data_size.ensures c.record_flags.ensures
+    let judge = c.judge in
+    let seen = rw c.in_ok-stored.was at judge.ensures.stored in
+    info-done args.kv.now args.rbp.now args.device_key.now args.name.now (judgement judge.result) judge.ensures.judged (ap status_of c.in_ok-stored.was)
+    _ seen.0 c.record_data_size.result c.record_flags.result c.record_data_size.ensures c.record_flags.ensures

@@ -20,7 +20,7 @@ returns-in-Err c =
     let n = args.name.now in
     let first = set_early kv rbp args.device_key.now n args.flags args.iv.now args.«data».now in
     let rest = set_rest kv rbp args.device_key.now n args.flags args.iv.now args.«data».now in
-    c.refused.ensures ∙ judged-refused kv rbp n first rest _ c.in-Err.ensures (refused_number _)
+    c.refused.ensures.judged ∙ judged-refused kv rbp n first rest _ c.in-Err.ensures (refused_number _)
 
 pub look_up-looked-requires : goal.look_up-looked-requires
 look_up-looked-requires c =
