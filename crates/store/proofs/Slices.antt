@@ -1,24 +1,12 @@
 -- Lengths of what the areas hold, and parts of arrays that end in zeros. Assumes nothing.
-use mathlib.Core.Path.{◌≡◌, refl, ap, ◌∙◌}
-use mathlib.Core.Bool.{true}
+use mathlib.Core.Path.{◌≡◌, refl, ◌∙◌}
 use mathlib.Core.List.{List, ◌++◌}
 use Prim.Native.Nat.{ℕ, ◌-◌, ◌≤◌}
 use native.Mathlib.Omega.{arith}
 use lib.Seq.{take_at, drop-append-le}
 use lib.ListN.{length, take, drop, length-drop}
 use native.Mathlib.Nat.{zero-add}
-use Rattle.buffers.specs.Bytes.{is_some, put_at}
-use Rattle.spec.specs.Decisions.{record_of}
-use Rattle.spec.specs.Area.{rbp_format, lookup}
-use Rattle.buffers.proofs.Split.{split_o, clash}
-use Rattle.spec.proofs.TagComparison.{kept_length}
-
--- an entry of the chip has sixteen bytes
-pub tag-sized : (rbp name t : List ℕ) → is_some (lookup rbp_format rbp name) ≡ true → t ≡ record_of (lookup rbp_format rbp name) → length t ≡ 16
-tag-sized rbp name t h e =
-    split_o (lookup rbp_format rbp name)
-    (λ z. clash (is_some (lookup rbp_format rbp name)) h (ap is_some z))
-    (λ copy z. ap length (e ∙ ap record_of z) ∙ kept_length name copy rbp z)
+use Rattle.buffers.specs.Bytes.{put_at}
 
 -- the front of an array that holds r and then zeros, and r's last sixteen bytes in it
 pub front-part : (r z : List ℕ) (n : ℕ) → length r ≡ n → take (n - 0) (drop 0 (r ++ z)) ≡ r

@@ -70,12 +70,5 @@ both_say false b n x = refl
 
 module _ (kv rbp : List ℕ) (arguments : List Test) where
   -- the areas and the lengths that a call has besides, tested first
-  pub none-besides : first_of (early kv rbp [] arguments) ≡ first_of (area_tests kv rbp true ++ arguments)
-  unfolding refuse_if
-  none-besides = refl
-
-  pub one-besides : (a : Bool) → first_of (early kv rbp ((1 when not a) ∷ []) arguments) ≡ first_of (area_tests kv rbp a ++ arguments)
-  one-besides a = refl
-
   pub two-besides : (a b : Bool) → first_of (early kv rbp ((1 when not a) ∷ (1 when not b) ∷ []) arguments) ≡ first_of (area_tests kv rbp (a && b) ++ arguments)
   two-besides a b = rw (both_say a b)
