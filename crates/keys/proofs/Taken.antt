@@ -10,7 +10,7 @@ use lib.Dec.{leb}
 use lib.ListN.{length, take, drop, length-drop}
 use lib.Seq.{take_all, drop-append_seam, length-take-le}
 use denote.Ref.{Bor}
-use Rattle.std.specs.Prelude.{Result, Ok, Err, IsErrAnd}
+use Rattle.std.specs.Prelude.{Ok, Err}
 use Rattle.store.specs.declared.status.Refusal.{Refusal}
 use Rattle.store.specs.declared.status.Refusal.TheVariants.{InvalidKeyFile}
 use Rattle.buffers.specs.Bytes.{bytes_eq, le_bytes, u32_at}
@@ -117,11 +117,6 @@ module _ (r : KeyFileReader) (n : ℕ) where
   lacking refusal e = split (has_bytes r n)
       (λ h. let z = rw h at e in absurd cc)
       (λ h. let z = rw h at e in record { has_not = h; is = cc })
-
--- what a `?` hands on
-pub handed_on : {A : Type 0} (refusal : Refusal) (r : Result A Refusal) → IsErrAnd r (λ x. x ≡ refusal) → r ≡ Err refusal
-handed_on refusal (Ok value) h = absurd h
-handed_on refusal (Err x) h = ap (λ (y : Refusal). Err y) h
 
 module _ (r : KeyFileReader) where
   pub part-long : (n : ℕ) (p : Bor (List ℕ)) → Given r n p → length p.now ≡ n

@@ -9,8 +9,7 @@ use Rattle.spec.specs.Status.{first_of, Answer, buffer_answer, bytes_given}
 use Rattle.spec.proofs.Status.{answer-refused, answer-done}
 use Rattle.buffers.proofs.Lists.{in_front}
 use Rattle.keys.specs.Calls.{key_record, load_tests, load_key}
-use Rattle.store.proofs.Tests.{refused_number}
-use Rattle.keys.proofs.Taken.{handed_on}
+use Rattle.store.proofs.Tests.{handed_on, refused_number}
 use Rattle.keys.proofs.Written.{short_buffer}
 use Rattle.keys.proofs.Loaded.{not-got, not-a-file, loads, count-within-file, file-valid, file-invalid}
 use Rattle.keys.proofs.persist.load_persistent_key.Goals as goal
@@ -29,7 +28,7 @@ returns-in_err-count c =
     let g : Answer = record { status = code e; numbers = 0 ∷ []; output = c.get_key.new.file } in
     let buf = a.key_buf.now in
     let refused = not-got a.kv.now a.rbp.now a.device_key.now a.key_id buf c.if-key_buf-lt-MAX_KEY_FILE.false g c.in_err-count.ensures (refused_number e) in
-    rw (handed_on e c.from_residual.result c.from_residual.ensures.1) (answer-refused (code e) _ _ buf refused (refused_number e))
+    rw (handed_on c.from_residual.result e c.from_residual.ensures) (answer-refused (code e) _ _ buf refused (refused_number e))
 
 pub slice_bounds-file-end : goal.slice_bounds-file-end
 unfolding key_record
@@ -55,7 +54,7 @@ returns-in_err-parse_key_file c =
     let room = c.if-key_buf-lt-MAX_KEY_FILE.false in
     let invalid = file-invalid (bytes_given g) e c.in_err-parse_key_file.ensures in
     let refused = not-a-file a.kv.now a.rbp.now a.device_key.now a.key_id buf room g c.in_ok-count.ensures refl invalid.0 in
-    rw (handed_on e r.result r.ensures.1, invalid.1) (answer-refused 13 _ _ buf refused (omega arith))
+    rw (handed_on r.result e r.ensures, invalid.1) (answer-refused 13 _ _ buf refused (omega arith))
 
 pub returns : goal.returns
 unfolding load_key key_record
