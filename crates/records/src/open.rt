@@ -13,8 +13,7 @@ fn fitting(r: &[u8], room: usize) -> usize
     requires { well_formed r.now ≡ true }
     ensures { result ≡ min room (data_size_of r.now) }
 {
-    let size = record::record_data_size(r) as usize;
-    if room < size { room } else { size }
+    room.min(record::record_data_size(r) as usize)
 }
 
 impl Keys<'_> {

@@ -1,16 +1,10 @@
 -- `records::keys::Keys::copy_crypted`: counter mode under the name's ENC key, or the data as lent.
-use mathlib.Core.Path.{sym, ap₂, ◌∙◌}
+use mathlib.Core.Path.{ap₂, ◌∙◌}
 use mathlib.Core.List.{List}
 use Prim.Native.Nat.{ℕ}
 use Rattle.cipher.specs.Ctr.{ctr}
 use Rattle.spec.specs.Record.{sealed_data, crypt, enc_key}
-use Rattle.records.proofs.Needs.{confidential_needs}
 use Rattle.records.proofs.keys.Keys.copy_crypted.Goals as goal
-
-pub derive_encryption_key-key-requires : goal.derive_encryption_key-key-requires
-derive_encryption_key-key-requires c =
-    let require-confidentiality = c.require_confidentiality in
-    c.requires.ready_for (confidential_needs c.args.flags (sym require-confidentiality.ensures ∙ c.if-require_confidentiality.true))
 
 pub returns-then-require_confidentiality : goal.returns-then-require_confidentiality
 unfolding sealed_data crypt enc_key

@@ -1,9 +1,6 @@
 -- `records::keys::Keys::mac_difference`: metadata and stored data are all but the last sixteen bytes.
-use mathlib.Core.Path.{sym, ap₂, ◌∙◌}
-use Prim.Native.Nat.{◌-◌}
+use mathlib.Core.Path.{ap₂, ◌∙◌}
 use native.Mathlib.Omega.{arith}
-use lib.ListN.{length}
-use lib.Seq.{length-take-le}
 use Rattle.buffers.specs.Compare.{diff_accumulate}
 use Rattle.spec.proofs.Record.{valid-record}
 use Rattle.records.proofs.Valid.{covered-cmac}
@@ -13,11 +10,6 @@ pub overflow_sub-end : goal.overflow_sub-end
 overflow_sub-end c =
     let valid = valid-record c.args.r.now c.requires.r_value in
     omega arith
-
-pub slice_bounds-record_cmac-end : goal.slice_bounds-record_cmac-end
-slice_bounds-record_cmac-end c =
-    let r = c.args.r.now in
-    sym (length-take-le (length r - 16) r (omega arith))
 
 pub returns : goal.returns
 returns c =

@@ -1,6 +1,5 @@
 -- `records::keys::Keys::open_front`: the front of the stored data, which stand behind the metadata, becomes the front of the plaintext.
 use native.Mathlib.Omega.{arith}
-use lib.ListN.{length-take, length-drop}
 use Rattle.spec.proofs.Record.{valid-record}
 use Rattle.records.proofs.Sealed.{opened-steps}
 use Rattle.records.proofs.keys.Keys.open_front.Goals as goal
@@ -14,11 +13,6 @@ pub slice_bounds-put_crypted-end : goal.slice_bounds-put_crypted-end
 slice_bounds-put_crypted-end c =
     let valid = valid-record c.args.r.now c.requires.r_value in
     omega arith
-
-pub put_crypted-requires : goal.put_crypted-requires
-put_crypted-requires c =
-    let record-flags = c.record_flags-flags in
-    record { src_in_bounds = simp (length-take, length-drop) (omega arith); ready_for = λ h. c.requires.ready_for (rw (← record-flags.ensures) h) }
 
 pub returns : goal.returns
 returns c =

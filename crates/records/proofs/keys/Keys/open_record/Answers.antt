@@ -6,9 +6,6 @@ use Rattle.spec.proofs.Record.{valid-record}
 use Rattle.records.proofs.Sealed.{opened-filled}
 use Rattle.records.proofs.keys.Keys.open_record.Goals as goal
 
-pub open_front-requires : goal.open_front-requires
-open_front-requires c = c.requires
-
 pub returns : goal.returns
 returns c =
     let open-front = c.open_front in

@@ -1,14 +1,8 @@
 -- `records::keys::Keys::seal_into`: metadata, data and CMAC stand side by side.
-use mathlib.Core.Path.{sym}
-use native.Mathlib.Omega.{arith}
-use lib.Seq.{length-take-le}
 use mir.Syntax.{w8}
 use borrow.Kind.Array.{e_int, good_length}
 use Rattle.records.proofs.Sealed.{sealed-steps}
 use Rattle.records.proofs.keys.Keys.seal_into.Goals as goal
-
-pub slice_bounds-sealed_tag-end-2 : goal.slice_bounds-sealed_tag-end-2
-slice_bounds-sealed_tag-end-2 c = sym (length-take-le _ _ (omega arith))
 
 pub returns : goal.returns
 returns c =

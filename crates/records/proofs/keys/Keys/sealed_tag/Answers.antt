@@ -1,13 +1,6 @@
 -- `records::keys::Keys::sealed_tag`: the definition's two cases.
-use mathlib.Core.Path.{sym, ◌∙◌}
 use Rattle.records.specs.Parts.{tag_over}
-use Rattle.records.proofs.Needs.{integrity_needs}
 use Rattle.records.proofs.keys.Keys.sealed_tag.Goals as goal
-
-pub record_cmac-requires : goal.record_cmac-requires
-record_cmac-requires c =
-    let require-integrity = c.require_integrity in
-    c.requires (integrity_needs c.args.flags (sym require-integrity.ensures ∙ c.if-require_integrity.true))
 
 pub returns-then-require_integrity : goal.returns-then-require_integrity
 unfolding tag_over
