@@ -1,4 +1,4 @@
-// Keys kept as records under their identifiers.
+// Keys kept as records under their identifiers. Card, chip and device key stay three parameters: C lends them apart, and the store's calls take them so.
 ghost use Rattle.std.specs.Prelude.{◌≡◌, [], ◌∷◌};
 ghost use Rattle.store.specs.Answers.{status_of, count_of};
 ghost use Rattle.spec.specs.Name.{key_name};
