@@ -98,10 +98,6 @@ module _ {A C : Type 0} (f : A → C) where
   part-more i l a d was x h k e w =
       rw (w, map_next i l a h, sym e) (front-more (map f (take i l)) d x i (parts-length i l (omega arith)) k)
 
-  pub parts-over : (i : ℕ) (l : List A) (d was : List C) → i ≤ length l → i ≤ length d → was ≡ map f (take i l) ++ drop i d
-      → length was ≡ length d
-  parts-over i l d was h k w = ap length w ∙ length_front d (map f (take i l)) i (parts-length i l h ∙ sym (length-take-le i d k))
-
 -- ---- what encoding answers
 
 module _ (session : ℕ) (ts : List ℕ) (ls ps : List Float) (buf : List ℕ) where

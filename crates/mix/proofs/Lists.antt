@@ -31,14 +31,6 @@ module _ {A : Type 0} (f : A → List ℕ) where
   flatten-snoc [] x = append-nil (f x)
   flatten-snoc (y ∷ l) x = ap (λ (m : List ℕ). f y ++ m) (flatten-snoc l x) ∙ sym (append_assoc (f y) (flatten (map f l)) (f x))
 
--- the front of a list: an element of it, and one element more
-module _ {A : Type 0} (l : List A) (d : A) (n i : ℕ) (s : n ≤ length l) (h : i < n) where
-  pub front-inside : i < length (take n l)
-  front-inside = omega (arith, length-take-le n l s)
-
-  pub front_at : (t : A → Bool) (b : Bool) → t (get_or l i d) ≡ b → t (get_or (take n l) i d) ≡ b
-  front_at t b e = rw (get_or-take n l i d h) e
-
 -- a buffer with a front f and the rest of d, and s put behind f
 pub put-more : (d f s : List ℕ) (at k : ℕ) → length f ≡ at → at + length s ≡ k → put_at (f ++ drop at d) at s ≡ (f ++ s) ++ drop k d
 put-more d f s at k h e = put_next d f s at h ∙ ap (λ (n : ℕ). (f ++ s) ++ drop n d) e

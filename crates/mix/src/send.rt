@@ -8,6 +8,7 @@ use crate::monitor::AuxSend;
 use crate::range;
 use buffers::{compare, numbers};
 
+// The tags as the bytes have them, and C's arrays; in the code a send is an `AuxSend`.
 pub const TAG_MUTED: u8 = 0;
 
 pub const TAG_LEVEL: u8 = 1;
