@@ -9,7 +9,7 @@ use borrow.Author.Tests.{leb-true, leb-false, le-leb, lt-leb, eqb-true, eqb-fals
 use lib.Dec.{eqb, leb}
 use lib.Ieee.{Float, nan, binary32, fits}
 use lib.ListN.{length, get_or, set, take, drop, replicate, length-map, length-append, length-replicate, get_or-append}
-use lib.Seq.{drop-cons, set_at, take_at, length-take-le, length_front, take_all, take-length}
+use lib.Seq.{drop-cons, set_at, take_at, length-take-le, take_all, take-length}
 use Rattle.buffers.specs.Bytes.{every}
 use Rattle.buffers.proofs.Split.{split, both, clash}
 use Rattle.spec.specs.Status.{refuse_if, on_ok, Answer, buffer_answer}
