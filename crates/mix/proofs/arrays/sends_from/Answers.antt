@@ -7,9 +7,6 @@ use Rattle.mix.specs.declared.monitor.AuxSend.TheVariants.{Muted}
 use Rattle.mix.proofs.ArrayLaws.{send-more, sends-whole}
 use Rattle.mix.proofs.arrays.sends_from.Goals as goal
 
-pub loop-i-init : goal.loop-i-init
-loop-i-init c = refl
-
 pub loop-i-preserved : goal.loop-i-preserved
 loop-i-preserved c =
     let a = c.args in

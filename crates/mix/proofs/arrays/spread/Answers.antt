@@ -1,5 +1,5 @@
 -- `mix::arrays::spread`: each array holds the parts of one send more after each turn.
-use mathlib.Core.Path.{◌≡◌, refl}
+use mathlib.Core.Path.{◌≡◌}
 use native.Mathlib.Numerals.{add-one}
 use native.Mathlib.Omega.{arith}
 use borrow.Author.Rules.{rules}
@@ -9,9 +9,6 @@ use Rattle.mix.specs.Arrays.{send_tag, send_level, send_pan, spread_over}
 use Rattle.mix.specs.declared.monitor.AuxSend.TheVariants.{Muted}
 use Rattle.mix.proofs.ArrayLaws.{part-more}
 use Rattle.mix.proofs.arrays.spread.Goals as goal
-
-pub loop-i-init : goal.loop-i-init
-loop-i-init c = (refl, refl, refl)
 
 pub loop-i-preserved : goal.loop-i-preserved
 loop-i-preserved c =

@@ -36,11 +36,6 @@ loop-i-init c =
 pub encode_send-bytes-requires : goal.encode_send-bytes-requires
 encode_send-bytes-requires c = every-index send_in_range c.args.sends.now Muted c.requires.1 c.loop-i.i c.loop-i-test.true
 
-pub paste-requires : goal.paste-requires
-paste-requires c =
-    let size = ap (λ (l : List ℕ). length l) c.encode_send-bytes.ensures ∙ send-long (get_or c.args.sends.now c.loop-i.i Muted) in
-    omega (arith, size, c.encode_send-bytes.array_long, c.requires.0, c.loop-i-test.true)
-
 pub loop-i-preserved : goal.loop-i-preserved
 loop-i-preserved c =
     let sends = c.args.sends.now in

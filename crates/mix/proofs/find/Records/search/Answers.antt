@@ -1,6 +1,6 @@
 -- `mix::find::Records::search`. The invariant: the slots that are left give what all give.
 use Prim.Native.Nat.{◌<◌}
-use mathlib.Core.Path.{refl, sym, ap, ◌∙◌}
+use mathlib.Core.Path.{sym, ap, ◌∙◌}
 use mathlib.Core.List.{List, []}
 use Prim.Native.Nat.{ℕ, suc}
 use native.Mathlib.Numerals.{add-one}
@@ -13,14 +13,6 @@ use Rattle.mix.specs.Search.{scan}
 use Rattle.store.proofs.Tests.{refused_number, handed_on}
 use Rattle.mix.proofs.Scan.{scan-stops, scan-on}
 use Rattle.mix.proofs.find.Records.search.Goals as goal
-
-pub loop-i-init : goal.loop-i-init
-loop-i-init c = refl
-
-pub try_slot-requires : goal.try_slot-requires
-try_slot-requires c =
-    let n = rw (c.card.ensures.0, c.card.ensures.1) at c.slot_count-i-end.ensures in
-    omega (arith, n, c.loop-i-test.true)
 
 pub returns-in_err-seen : goal.returns-in_err-seen
 returns-in_err-seen c =
