@@ -1,26 +1,21 @@
 -- A set in chunks: from what each test says to what the calls answer and leave. Assumes nothing.
 use mathlib.Core.Path.{◌≡◌, refl, sym, ap, ◌∙◌}
 use mathlib.Core.Logic.{◌≢◌}
-use mathlib.Core.Bool.{true, not, ◌&&◌}
-use mathlib.Core.List.{List, [], ◌∷◌, ◌++◌}
-use Prim.Native.Nat.{ℕ, ◌+◌, ◌-◌, ◌≤◌, ◌<◌}
+use mathlib.Core.List.{List, []}
+use Prim.Native.Nat.{ℕ, ◌-◌}
 use native.Mathlib.Omega.{arith}
-use borrow.Author.Tests.{eq-eqb, ne_eqb, leb-true, le-leb, lt-leb}
-use lib.Dec.{eqb, leb}
+use borrow.Author.Tests.{eq-eqb, ne_eqb}
 use lib.ListN.{length, take, drop}
 use Rattle.buffers.specs.Bytes.{put_at}
-use Rattle.buffers.proofs.Split.{not-false-is, both}
-use Rattle.spec.specs.Status.{ok, Test, ◌when◌, refuse_if, first_of, on_ok, answer_of, Answer}
+use Rattle.spec.specs.Status.{ok, refuse_if, first_of, on_ok, answer_of, Answer}
 use Rattle.spec.specs.Name.{Name}
-use Rattle.spec.specs.Area.{kv_format, rbp_format, sized}
 use Rattle.spec.specs.Interleaving.{Outcome}
-use Rattle.spec.specs.Decisions.{key_sized}
 use Rattle.spec.specs.Calls.{Areas, areas, store_set}
-use Rattle.spec.specs.Incremental.{staging_sized, handle_tests, zero_handle, start_tests, new_handle, set_start}
+use Rattle.spec.specs.Incremental.{zero_handle, start_tests, new_handle, set_start}
 use Rattle.spec.specs.Incremental.{staged, add_tests, advanced, set_add_data, store_set_finalize}
 use Rattle.spec.specs.IncrementalExact.{Startable, Addable, Complete}
 use Rattle.spec.specs.declared.incremental.IncSetHandle.{IncSetHandle}
-use Rattle.spec.proofs.Status.{Passed, all-passed, past, stops}
+use Rattle.spec.proofs.Status.{all-passed}
 use Rattle.spec.proofs.IncrementalSet.{startable, addable, complete-of, as_set, finalize-refused}
 use Rattle.store.specs.Parts.{finalize_early}
 
@@ -57,39 +52,7 @@ module _ (name : Name) (flags : ℕ) (iv : List ℕ) (size n : ℕ) (e : n ≡ f
   pub start-ready : n ≡ ok → Startable name iv size
   start-ready z = startable name flags iv size (sym e ∙ z)
 
--- ---- add: n is what the handle's tests say
-
-module _ (h : IncSetHandle) (n : ℕ) (e : n ≡ first_of (handle_tests h)) where
-  handle-passed : n ≡ ok → Passed (handle_tests h)
-  handle-passed z = all-passed (handle_tests h) refl (sym e ∙ z)
-
-  pub count_in : n ≡ ok → h.offset ≤ h.final_data_size
-  count_in z = leb-true h.offset h.final_data_size (not-false-is _ (handle-passed z).1.1.0)
-
-  module _ (staging chunk : List ℕ) (s : length staging ≡ 480) where
-    abbrev last : List Test
-    last = (19 when not (leb (h.offset + length chunk) h.final_data_size)) ∷ []
-
-    sized_too : first_of (handle_tests h ++ last) ≡ first_of (add_tests h staging chunk)
-    unfolding refuse_if
-    sized_too = rw (eq-eqb (length staging) 480 s)
-
-    pub add_broken : n ≢ ok → n ≡ first_of (add_tests h staging chunk)
-    add_broken z = e ∙ sym (stops (handle_tests h) last (λ y. z (e ∙ y))) ∙ sized_too
-
-    pub add-past : n ≡ ok → h.final_data_size - h.offset < length chunk → 19 ≡ first_of (add_tests h staging chunk)
-    unfolding refuse_if
-    add-past z l =
-        let c = count_in z in
-        let far : 19 ≡ first_of last = rw (lt-leb (h.offset + length chunk) h.final_data_size (omega arith)) in
-        far ∙ sym (past (handle_tests h) last (handle-passed z)) ∙ sized_too
-
-    pub add-fits : n ≡ ok → length chunk ≤ h.final_data_size - h.offset → ok ≡ first_of (add_tests h staging chunk)
-    unfolding refuse_if
-    add-fits z l =
-        let c = count_in z in
-        let near : ok ≡ first_of last = rw (le-leb (h.offset + length chunk) h.final_data_size (omega arith)) in
-        near ∙ sym (past (handle_tests h) last (handle-passed z)) ∙ sized_too
+-- ---- add
 
 module _ (h : IncSetHandle) (staging chunk : List ℕ) (n : ℕ) (e : n ≡ first_of (add_tests h staging chunk)) where
   pub add-ready : n ≡ ok → Addable h staging chunk
@@ -107,34 +70,6 @@ module _ (h : IncSetHandle) (staging chunk : List ℕ) (n : ℕ) (e : n ≡ firs
       (staged h staging) (staged g l) e z (λ i. staged (v i) (w i))
 
 -- ---- finalize
-
-module _ (kv rbp key : List ℕ) (h : IncSetHandle) (staging : List ℕ) where
-  abbrev tests : List Test
-  tests = finalize_early kv rbp key h staging
-
-  abbrev short : List Test
-  short = (19 when not (eqb h.offset h.final_data_size)) ∷ []
-
-  module _ (k : sized kv_format kv ≡ true) (r : sized rbp_format rbp ≡ true) where
-    module _ (l : (key_sized key && staging_sized staging) ≡ true) (n : ℕ) (e : n ≡ first_of (handle_tests h)) where
-      then : first_of (handle_tests h ++ short) ≡ first_of tests
-      unfolding refuse_if
-      then = let p = both (key_sized key) (staging_sized staging) l in rw (k, r, p.0, p.1)
-
-      pub finalize_broken : n ≢ ok → n ≡ first_of tests
-      finalize_broken z = e ∙ sym (stops (handle_tests h) short (λ y. z (e ∙ y))) ∙ then
-
-      pub finalize-short : n ≡ ok → h.offset ≢ h.final_data_size → 19 ≡ first_of tests
-      unfolding refuse_if
-      finalize-short z d =
-          let some : 19 ≡ first_of short = rw (ne_eqb h.offset h.final_data_size d) in
-          some ∙ sym (past (handle_tests h) short (handle-passed h n e z)) ∙ then
-
-      pub finalize-passes : n ≡ ok → h.offset ≡ h.final_data_size → ok ≡ first_of tests
-      unfolding refuse_if
-      finalize-passes z d =
-          let none : ok ≡ first_of short = rw (eq-eqb h.offset h.final_data_size d) in
-          none ∙ sym (past (handle_tests h) short (handle-passed h n e z)) ∙ then
 
 module _ (kv rbp key : List ℕ) (h : IncSetHandle) (staging : List ℕ) (n : ℕ) (e : n ≡ first_of (finalize_early kv rbp key h staging)) where
   pub refused-early : length h.iv ≡ 8 → n ≢ ok

@@ -87,6 +87,7 @@ pub fn keyless_status<'a>(held: Held<'a>) -> Result<&'a [u8], Refusal>
 }
 
 // 11, 12 with replay protection and without, 14.
+#[tactic(auto, using(crate::proofs::Given::some_option), unfolding(spec::specs::Status::refuse_if))]
 pub fn held_status(
     keys: &Keys,
     offset: usize,

@@ -1,4 +1,4 @@
-// A handle's 88 bytes, for callers that keep it as bytes.
+// A handle's 88 bytes, for callers that keep it as bytes. Functions and not From: neither type is this crate's.
 ghost use Rattle.std.specs.Prelude.{◌≡◌};
 ghost use Rattle.spec.specs.Incremental.{handle_bytes, handle_of};
 

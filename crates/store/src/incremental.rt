@@ -29,6 +29,7 @@ fn start_status(name: &[u8], iv: &[u8], final_data_size: usize) -> Result<(), Re
     Ok(())
 }
 
+// No Default: the type is not this crate's.
 pub fn zero_handle() -> IncSetHandle
     ensures { result ≡ zero_handle }
 {
@@ -76,13 +77,10 @@ pub fn set_start(
 fn handle_status(handle: IncSetHandle) -> Result<(), Refusal>
     ensures { status_of result ≡ first_of (handle_tests handle) }
 {
-    if 64 < handle.name_len {
-        return Err(Refusal::TransferSize);
-    }
-    if 480 < handle.final_data_size {
-        return Err(Refusal::TransferSize);
-    }
-    if handle.final_data_size < handle.offset {
+    if 64 < handle.name_len
+        || 480 < handle.final_data_size
+        || handle.final_data_size < handle.offset
+    {
         return Err(Refusal::TransferSize);
     }
     Ok(())
@@ -140,16 +138,11 @@ fn finalize_status(
 ) -> Result<(), Refusal>
     ensures { status_of result ≡ first_of (finalize_early kv.now rbp.now device_key.now handle staging.now) }
 {
-    if !areas::area_sized(AreaKind::Kv, kv) {
-        return Err(Refusal::Length);
-    }
-    if !areas::area_sized(AreaKind::Rbp, rbp) {
-        return Err(Refusal::Length);
-    }
-    if device_key.len() != 16 {
-        return Err(Refusal::Length);
-    }
-    if staging.len() != 480 {
+    if !areas::area_sized(AreaKind::Kv, kv)
+        || !areas::area_sized(AreaKind::Rbp, rbp)
+        || device_key.len() != 16
+        || staging.len() != 480
+    {
         return Err(Refusal::Length);
     }
     handle_status(handle)?;

@@ -11,10 +11,7 @@ use slots::{AreaKind, areas};
 pub fn reset(kv: &mut [u8], rbp: &mut [u8]) -> Result<(), Refusal>
     ensures { record { answer = record { status = status_of result; numbers = []; output = [] }; after = record { kv = kv.new; rbp = rbp.new } } ≡ Calls.store_reset kv.old rbp.old }
 {
-    if !areas::area_sized(AreaKind::Kv, kv) {
-        return Err(Refusal::Length);
-    }
-    if !areas::area_sized(AreaKind::Rbp, rbp) {
+    if !areas::area_sized(AreaKind::Kv, kv) || !areas::area_sized(AreaKind::Rbp, rbp) {
         return Err(Refusal::Length);
     }
     parts::clear(kv);

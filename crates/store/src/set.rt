@@ -41,6 +41,7 @@ pub fn argument_status(name: &[u8], flags: u32, data: &[u8]) -> Result<(), Refus
 }
 
 // 1 to 5: what a set asks before it looks the name up.
+#[tactic(auto, unfolding(spec::specs::Status::refuse_if))]
 pub fn early_status(
     kv: &[u8],
     rbp: &[u8],
@@ -75,6 +76,7 @@ fn stored_status(flags: u32, stored: &[u8]) -> Result<(), Refusal>
 }
 
 // 8, 7, 9 where the card holds the name; 7 where it does not; then 12.
+#[tactic(auto, using(crate::proofs::Given::some_option), unfolding(spec::specs::Status::refuse_if, spec::specs::Decisions::set_held))]
 pub fn held_status(flags: u32, held: Held<'_>) -> Result<(), Refusal>
     ensures { status_of result ≡ first_of (set_held require_replay_protection flags (binding held.entry)) }
 {

@@ -1,6 +1,6 @@
 -- `store::set::held_status`: 8, 7, 9 for a known name, 7 for a new one; then 12.
 use mathlib.Core.Path.{◌≡◌, refl, sym, ap, ◌∙◌}
-use mathlib.Core.Bool.{Bool, true, false, ◌&&◌}
+use mathlib.Core.Bool.{Bool, false, ◌&&◌}
 use mathlib.Core.List.{List, ◌∷◌, ◌++◌}
 use mathlib.Core.Option.{none, some}
 use Prim.Native.Nat.{ℕ}
@@ -10,7 +10,7 @@ use Rattle.spec.specs.Request.{Binding}
 use Rattle.spec.specs.Decisions.{in_chip, set_held}
 use Rattle.store.specs.Parts.{given, binding, stored_tests, downgrade_tests}
 use Rattle.store.proofs.Given.{some_option}
-use Rattle.store.proofs.Tests.{stopped, went_on}
+use Rattle.store.proofs.Tests.{went_on}
 use Rattle.store.proofs.set.held_status.Goals.{in-Some+in_ok-stored_status-in-Some, in-None+then-write_once+else-is_some, in-None+else-write_once}
 use Rattle.store.proofs.set.held_status.Goals as goal
 
@@ -24,22 +24,6 @@ module _ (flags : ℕ) (b : Binding) where
       → first_of ((7 when t) ∷ downgrade_tests flags (in_chip b)) ≡ first_of (set_held require_replay_protection flags b)
   unfolding set_held refuse_if
   absent e t w = rw (e, w)
-
-pub returns-in_err-stored_status-in-Some : goal.returns-in_err-stored_status-in-Some
-returns-in_err-stored_status-in-Some c =
-    let flags = c.args.flags in
-    let b = binding c.args.held in
-    let r = c.in-Some.stored.now in
-    stopped (stored_tests flags r) (downgrade_tests flags (in_chip b)) _ _ c.from_residual.ensures c.in_err-stored_status-in-Some.ensures
-    ∙ known flags b r (ap given c.in-Some.is)
-
-pub returns-in-None : goal.returns-in-None
-unfolding refuse_if
-returns-in-None c =
-    let b = binding c.args.held in
-    let asked : (write_once c.args.flags && in_chip b) ≡ true =
-    rw (← c.if-write_once.ensures) (some_option c.args.held.tag ∙ sym c.if-is_some.ensures) in
-    absent c.args.flags b (ap given c.in-None.is) true asked
 
 pub returns : goal.returns
 unfolding refuse_if
