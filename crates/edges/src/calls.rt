@@ -65,11 +65,10 @@ fn write<F: FnOnce(&Bench, &mut [u8], &mut [u8]) -> Result<(), Refusal>>(
 ) -> Answer
     requires { F.IsAlwaysCallable call }
 {
-    let media = bench.media();
     let mut kv = [0u8; CHIP];
     let mut rbp = [0u8; 5330];
-    kv.copy_from_slice(&media[..CHIP]);
-    rbp.copy_from_slice(&media[CHIP..]);
+    put(&mut kv, 0, bench.at(Place::Card, 0, CHIP));
+    put(&mut rbp, 0, bench.at(Place::Chip, 0, 5330));
     let result = call(
         bench,
         front_mut(&mut kv, bench.len(Place::Card)),

@@ -162,7 +162,7 @@ impl<'a> Run<'a> {
     }
 }
 
-fn run_text(file: &[u8], text: &[u8]) -> Tally {
+fn run_text<'a>(file: &'a [u8], text: &'a [u8]) -> Tally {
     let mut run = Run {
         file,
         text,
