@@ -35,6 +35,7 @@ impl<R: io::Read> Input<R> {
 
     // Another read, in place of the last.
     pub(crate) fn refill(&mut self) -> Result<(), Fault>
+        ensures from { OnOk result (self.new.from ≡ 0) }
         ensures ended { OnOk result (self.new.ended ≡ (self.new.to == 0)) }
         ensures bytes { OnOk result (Consumes (R.remaining self.old.reader) (R.remaining self.new.reader) (unused self.new)) }
         ensures err { IfErr result (λ e. e ≡ Fault.Read) }

@@ -21,12 +21,9 @@ use Rattle.buffers.proofs.Split.{split, neither}
 use Rattle.spec.proofs.Whole.{count-within}
 use Rattle.spec.proofs.Demand1.{demand1-holds}
 use Rattle.script_replay.specs.Script.{answer_line}
-use Rattle.script_replay.specs.Replay.{answered, step}
+use Rattle.script_replay.specs.Replay.{answered}
 use Rattle.script_replay.specs.Stream.{ends_line}
 use Rattle.script_replay.specs.Laws.{AnswerLaws, Answers, EveryLine}
-use Rattle.text.proofs.HexSteps.{text-length}
-use Rattle.script_replay.proofs.Coded.{text-short}
-use Rattle.script_replay.proofs.Answered.{answer-length}
 use Rattle.script_replay.proofs.LineLaws.{set-count, remove-count, by-line}
 
 -- ---- texts without a newline
@@ -97,13 +94,3 @@ every-line kv rbp key line = by-line kv rbp key line (Answers kv rbp)
     (λ name l e. well-answers (demand1-holds.of_get kv rbp key name 0 (zeros 480)) (count-within kv rbp key name 0 (zeros 480)))
     (λ name l e. well-answers (demand1-holds.of_remove kv rbp name) (omega (arith, remove-count kv rbp name)))
     (record { status = 15; returned = []; answer = refl; listed = inl refl; at_most = omega arith; refused = λ r. (refl, refl) })
-
--- ---- no answer is longer than the buffer for it
-
-pub answer-short : (status : ℕ) (returned : List ℕ) → length returned ≤ 480 → length (answer_line status returned) ≤ 1024
-answer-short status returned h = omega (arith, answer-length status returned, text-short status, text-length returned)
-
-pub step-short : (kv rbp key line : List ℕ) (n : ℕ) → n ≡ length (step kv rbp key line).answer → n ≤ 1024
-step-short kv rbp key line n e =
-    let w = every-line kv rbp key line in
-    omega (arith, e, ap (λ (l : List ℕ). length l) w.answer, answer-short w.status w.returned w.at_most)

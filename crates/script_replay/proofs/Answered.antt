@@ -7,7 +7,6 @@ use lib.ListN.{length, get_or, take, drop, length-append}
 use Rattle.buffers.specs.Bytes.{zeros, put_at}
 use Rattle.buffers.proofs.Lists.{front, in_front, behind}
 use Rattle.buffers.proofs.Split.{split}
-use Rattle.store.proofs.Slices.{front-part}
 use Rattle.text.specs.Parts.{tab, newline}
 use Rattle.text.specs.Hex.{hex_text}
 use Rattle.text.specs.Decimal.{decimal_text}
@@ -15,11 +14,10 @@ use Rattle.spec.specs.Status.{is_ok, on_ok, Answer, bytes_given}
 use Rattle.spec.specs.Interleaving.{Outcome}
 use Rattle.spec.specs.Calls.{Areas, areas, store_get}
 use Rattle.spec.proofs.Whole.{count-within}
-use Rattle.script_replay.specs.Script.{field, err_syntax, answer_line, at_front}
-use Rattle.script_replay.specs.Replay.{Played, answered, unreadable, answer_size, shown, left, get_line}
-use Rattle.std.specs.Prelude.{Option, Some, None, Result, Ok, Err, unwrap_or}
+use Rattle.script_replay.specs.Script.{field, answer_line, at_front}
+use Rattle.script_replay.specs.Replay.{Played, answered, answer_size, shown, left, get_line}
+use Rattle.std.specs.Prelude.{Option, Some, None, Result, Ok, Err}
 use Rattle.std.specs.Result.{result_unwrap_or}
-use Rattle.std.proofs.lemmas.Option.{none-some, same_Some}
 use Rattle.store.specs.Answers.{count_of}
 use Rattle.store.specs.declared.status.Refusal.{Refusal}
 use Rattle.std.specs.Option.{option_map}
@@ -63,19 +61,6 @@ module _ (status : ℕ) (d : List ℕ) where
 pub written : (t u out last : List ℕ) (r : ℕ) → u ≡ t → r ≡ length u → last ≡ at_front u out → (r ≡ length t) × (last ≡ at_front t out)
 written t u out last r e p q = rw (sym e) (p, q)
 
--- what was written lies within its buffer
-pub within : (t out last : List ℕ) (r : ℕ) → r ≡ length t → last ≡ at_front t out → r ≤ length last
-within t out last r p q = omega (arith, p, ap (λ (l : List ℕ). length l) q, length-append t (drop (length t) out))
-
--- its part of the buffer, as the code lends it
-pub answer-part : (t out last : List ℕ) (n : ℕ) → n ≡ length t → last ≡ at_front t out → take (n - 0) (drop 0 last) ≡ t
-answer-part t out last n p q = rw q (front-part t (drop (length t) out) n (sym p))
-
-pub with_bound : (o : Played) (s : Areas) (out last : List ℕ) (r : ℕ)
-    → (r ≡ length o.answer) × ((last ≡ at_front o.answer out) × (s ≡ o.after))
-    → (r ≡ length o.answer) × ((last ≡ at_front o.answer out) × ((s ≡ o.after) × (r ≤ length last)))
-with_bound o s out last r (p, (q, e)) = (p, (q, (e, within o.answer out last r p q)))
-
 -- a call that returns nothing but its number
 module _ (o : Outcome Areas Answer) (status told : ℕ) (kv rbp : List ℕ) (t : told ≡ status)
     (e : record { answer = record { status = status; numbers = []; output = [] }; after = areas kv rbp } ≡ o) where
@@ -88,21 +73,6 @@ module _ (o : Outcome Areas Answer) (status told : ℕ) (kv rbp : List ℕ) (t :
 pub count-told : (r : Result ℕ Refusal) → result_unwrap_or r 0 ≡ count_of r
 count-told (Ok n) = refl
 count-told (Err e) = refl
-
--- what is written where a line is carried out or can't be read, and where it may be either
-module _ (kv rbp out : List ℕ) where
-  pub some-stepped : (o : Option Played) (s : Areas) (last : List ℕ) (n : ℕ) → Some n ≡ option_map answer_size o → last ≡ shown o out → s ≡ left kv rbp o
-      → (n ≡ length (unwrap_or o (unreadable kv rbp)).answer)
-      × ((last ≡ at_front (unwrap_or o (unreadable kv rbp)).answer out) × (s ≡ (unwrap_or o (unreadable kv rbp)).after))
-  some-stepped None s last n p q e = absurd (none-some n (sym p))
-  some-stepped (Some o) s last n p q e = (same_Some n (length o.answer) p, (q, e))
-
-  pub none-stepped : (o : Option Played) (s : Areas) (last last' : List ℕ) (n : ℕ) → None ≡ option_map answer_size o → last ≡ shown o out → s ≡ left kv rbp o
-      → n ≡ length (answer_line err_syntax []) → last' ≡ at_front (answer_line err_syntax []) last
-      → (n ≡ length (unwrap_or o (unreadable kv rbp)).answer)
-      × ((last' ≡ at_front (unwrap_or o (unreadable kv rbp)).answer out) × (s ≡ (unwrap_or o (unreadable kv rbp)).after))
-  none-stepped None s last last' n p q e x y = (x, (y ∙ ap (at_front (answer_line err_syntax [])) q, e))
-  none-stepped (Some o) s last last' n p q e x y = absurd (none-some (length o.answer) p)
 
 -- a line that may be no call: carried out, or not
 module _ (o : Option Played) (kv rbp out : List ℕ) where

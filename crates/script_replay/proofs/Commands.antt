@@ -2,9 +2,9 @@
 use mathlib.Core.Path.{◌≡◌, refl, sym, ap, ◌∙◌}
 use mathlib.Core.Bool.{true, false}
 use mathlib.Core.List.{List}
-use Prim.Native.Nat.{ℕ, ◌≤◌, ◌<◌}
+use Prim.Native.Nat.{ℕ, ◌≤◌}
 use native.Mathlib.Omega.{arith}
-use borrow.Author.Tests.{le-leb, lt-leb}
+use borrow.Author.Tests.{le-leb}
 use lib.ListN.{length, drop, length-take, length-drop}
 use Rattle.text.specs.Parts.{tab, part_start}
 use Rattle.text.specs.Hex.{is_hex, hex_bytes}
@@ -15,17 +15,12 @@ use Rattle.text.proofs.Theorems as text
 use Rattle.text.proofs.HexSteps.{bytes-length}
 use Rattle.script_replay.specs.Script.{field, command, is_number}
 use Rattle.script_replay.specs.declared.command.Command.{Command}
-use Rattle.script_replay.proofs.Coded.{cond_none}
 use Rattle.spec.specs.Calls.{store_set}
 use Rattle.script_replay.specs.Replay.{answered, set_line, carried_out, call_line}
 
 -- ---- numbers
 
 module _ (s : List ℕ) (most : ℕ) (r : Option ℕ) (e : r ≡ read s most) where
-  pub number-none : r ≡ None → is_number most s ≡ false
-  unfolding read
-  number-none h = cond_none (is_number most s) (decimal_value s) (sym e ∙ h)
-
   pub number-some : (n : ℕ) → r ≡ Some n → (is_number most s ≡ true) × (decimal_value s ≡ n)
   unfolding read
   number-some n h = cond_some (is_number most s) (decimal_value s) n (sym e ∙ h)
@@ -46,31 +41,15 @@ bytes_fit line name k e h = omega (arith, bytes-length name, ap (λ (l : List �
 -- ---- which line is which
 
 module _ (kv rbp key line : List ℕ) where
-  pub too-long : 1100 < length line → call_line kv rbp key line ≡ None
-  unfolding call_line
-  too-long h = rw (lt-leb (length line) 1100 h)
-
   module _ (h : length line ≤ 1100) where
     pub a_command : (c : Command) → command line ≡ Some c → call_line kv rbp key line ≡ carried_out kv rbp key line c
     unfolding call_line
     a_command c e = rw (le-leb (length line) 1100 h, e)
 
-    pub no_command : command line ≡ None → call_line kv rbp key line ≡ None
-    unfolding call_line
-    no_command e = rw (le-leb (length line) 1100 h, e)
-
 -- ---- the fields of a set
 
 module _ (kv rbp key line : List ℕ) where
-  pub flags-bad : is_number 4294967295 (field line 2) ≡ false → set_line kv rbp key line ≡ None
-  unfolding set_line
-  flags-bad e = rw e
-
   module _ (flags : is_number 4294967295 (field line 2) ≡ true) where
-    pub iv-bad : is_hex (field line 3) ≡ false → set_line kv rbp key line ≡ None
-    unfolding set_line
-    iv-bad e = rw (flags, e)
-
     module _ (iv : is_hex (field line 3) ≡ true) where
       pub value-bad : is_hex (field line 4) ≡ false → set_line kv rbp key line ≡ None
       unfolding set_line

@@ -32,6 +32,7 @@ impl Command {
 }
 
 // Whether a line has so many fields, and this word is the first.
+#[tactic(auto, unfolding(crate::specs::Script::is_command))]
 fn is_command(line: &[u8], count: usize, word: &[u8]) -> bool
     ensures { result ≡ is_command line.now count word.now }
 {

@@ -11,6 +11,7 @@ pub struct ScriptHeader {
     pub slots: usize,
 }
 
+#[tactic(auto, using(crate::proofs::Headers::key_fits, crate::proofs::Headers::key_length), unfolding(crate::specs::Script::header, crate::specs::Script::header_valid, text::specs::Decimal::read, text::specs::Written::answer, text::specs::Written::left))]
 pub fn read_header(line: &[u8]) -> Option<ScriptHeader>
     ensures value { result ≡ header line.now }
     ensures slots_bound { IfSome result (λ h. h.slots ≤ 64) }

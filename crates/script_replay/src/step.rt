@@ -18,6 +18,7 @@ pub const LINE_LIMIT: usize = 1100;
 const HEX_SIZE: usize = 550;
 
 // Card, chip and key stay three parameters: in a struct each clause reads `self.old.kv.now` for `kv.old`, and each call of the store takes them apart again.
+#[tactic(auto, using(crate::proofs::Commands::bytes_fit), unfolding(crate::specs::Replay::set_line, text::specs::Decimal::read, text::specs::Written::answer))]
 fn set_line(
     kv: &mut [u8],
     rbp: &mut [u8],
@@ -63,6 +64,7 @@ fn get_line(
     answer::put_answer(number(answer), &data[0..count], out)
 }
 
+#[tactic(auto, unfolding(crate::specs::Replay::remove_line))]
 fn remove_line(kv: &mut [u8], rbp: &mut [u8], line: &[u8], out: &mut [u8; ANSWER_SIZE]) -> usize
     ensures value { result ≡ length (remove_line kv.old rbp.old line.now).answer }
     ensures out_after { out.new ≡ at_front (remove_line kv.old rbp.old line.now).answer out.old }
@@ -73,6 +75,7 @@ fn remove_line(kv: &mut [u8], rbp: &mut [u8], line: &[u8], out: &mut [u8; ANSWER
 }
 
 // One of the three calls. Nothing is done and nothing written where the line can't be read.
+#[tactic(auto, unfolding(crate::specs::Replay::call_line))]
 fn call_line(
     kv: &mut [u8],
     rbp: &mut [u8],
@@ -95,6 +98,7 @@ fn call_line(
 }
 
 // The answer stands at the front of out, and its length is returned; the rest of out stays as it was. The last clause follows, as of `put_unreadable`.
+#[tactic(auto, unfolding(crate::specs::Replay::step))]
 pub fn step(
     kv: &mut [u8],
     rbp: &mut [u8],

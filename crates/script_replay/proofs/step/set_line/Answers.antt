@@ -6,32 +6,8 @@ use Rattle.script_replay.specs.Script.{is_number}
 use Rattle.script_replay.specs.Replay.{set_line}
 use Rattle.script_replay.proofs.Coded.{coded-none, coded-good, coded-part}
 use Rattle.script_replay.proofs.Answered.{line-done, line-not-done, call-written}
-use Rattle.script_replay.proofs.Commands.{number-none, number-some, bytes_fit, flags-bad, iv-bad, value-bad, set-readable, same_set}
+use Rattle.script_replay.proofs.Commands.{number-some, bytes_fit, value-bad, set-readable, same_set}
 use Rattle.script_replay.proofs.step.set_line.Goals as goal
-
-pub returns-in_err-flags : goal.returns-in_err-flags
-returns-in_err-flags c =
-    let a = c.args in
-    let kv = a.kv.now in
-    let rbp = a.rbp.now in
-    let key = a.device_key.now in
-    let line = a.line.now in
-    let bad = sym (ap (is_number 4294967295) c.field.ensures.0) ∙ number-none _ 4294967295 _ c.parse_decimal.ensures.value c.in_err-flags.was in
-    let all = line-not-done (set_line kv rbp key line) kv rbp a.out.now (flags-bad kv rbp key line bad) in
-    record { value = c.from_residual.ensures ∙ all.0; out_after = all.1.0; rbp_after = all.1.1 }
-
-pub returns-in_err-n : goal.returns-in_err-n
-returns-in_err-n c =
-    let a = c.args in
-    let kv = a.kv.now in
-    let rbp = a.rbp.now in
-    let key = a.device_key.now in
-    let line = a.line.now in
-    let flags = sym (ap (is_number 4294967295) c.field.ensures.0) ∙ (number-some _ 4294967295 _ c.parse_decimal.ensures.value _ c.in_ok-flags.was).0 in
-    let e = c.field-2.ensures.0 in
-    let bad = sym (ap is_hex e) ∙ coded-none _ _ _ _ c.decode_hex.ensures.value (bytes_fit line _ 3 e c.requires) c.in_err-n.was in
-    let all = line-not-done (set_line kv rbp key line) kv rbp a.out.now (iv-bad kv rbp key line flags bad) in
-    record { value = c.from_residual-in_err-n.ensures ∙ all.0; out_after = all.1.0; rbp_after = all.1.1 }
 
 pub returns-in_err-m : goal.returns-in_err-m
 returns-in_err-m c =
