@@ -7,7 +7,7 @@ ghost use Rattle.spec.specs.Area.{kv_format, payload_size, slot_free, slot_used,
 ghost use Rattle.spec.specs.Calls.{slot_has_prefix, next_match};
 ghost use Rattle.slots.specs.Kind.{format_of};
 ghost use Rattle.slots.specs.Search.{Tests, FailsBefore};
-ghost use Rattle.slots.specs.Found.{slot_for, found_in, slot_at, CanRead, CanInsert, payload, payload_at, insert_end, insert_at, erase_at};
+ghost use Rattle.slots.specs.Found.{slot_for, found_in, slot_at, CanRead, CanInsert, payload, insert_end, insert_at, erase_at};
 
 use crate::AreaKind;
 use crate::slot::{self, Slot};
@@ -256,17 +256,4 @@ pub fn erase_at(kind: AreaKind, area: &mut [u8], found: Found)
     let start = found.at * w;
     let end = Area { kind, bytes: area }.first_free() * w;
     take_first(kind, &mut area[start..end]);
-}
-
-// What is held for a name that is known to be held, of kind and bytes apart; nothing, where it is not held. `Area::payload` tells the two apart.
-pub fn payload_at<'a>(kind: AreaKind, area: &'a [u8], found: Found) -> &'a [u8]
-    requires { (sized (format_of kind) area.now ≡ true) × (CanRead (format_of kind) area.now found) }
-    ensures { result.now ≡ payload_at (format_of kind) area.now found }
-{
-    if found.held {
-        let bytes = slot_at(kind, area, found.at);
-        Slot { kind, bytes }.payload()
-    } else {
-        &area[0..0]
-    }
 }
