@@ -81,17 +81,6 @@ pub struct Area<'a> {
 }
 
 impl<'a> Area<'a> {
-    pub fn checked(kind: AreaKind, bytes: &'a [u8]) -> Option<Area<'a>>
-        ensures some { is_some result ≡ (sized (format_of kind) bytes.now && intact (format_of kind) bytes.now) }
-        ensures parts { IfSome result (λ area. (area.kind ≡ kind) × (area.bytes.now ≡ bytes.now)) }
-    {
-        if area_sized(kind, bytes) && area_intact(kind, bytes) {
-            Some(Area { kind, bytes })
-        } else {
-            None
-        }
-    }
-
     pub fn slot_count(&self) -> usize
         ensures { result ≡ slot_count (format_of self.now.kind) self.now.bytes.now }
     {
