@@ -1,4 +1,4 @@
-// The flags of a record.
+// The flags of a record: a number and no type of their own, since any number may be handed in and the definitions are of numbers.
 ghost use Rattle.std.specs.Prelude.{◌≡◌};
 ghost use Rattle.spec.specs.Record.{write_once, require_confidentiality, require_integrity, require_replay_protection, valid_flags};
 ghost use Rattle.records.specs.Parts.{needs_keys};
