@@ -6,7 +6,7 @@ use crate::{BUFFER_SIZE, Fault};
 use script_replay::gather;
 use std::io;
 
-// Of the bytes that were read last, those from `from` to `to` are not used yet.
+// Of the bytes that were read last, those from `from` to `to` are not used yet. Behind an end nothing is read again.
 #[derive(Drop)]
 pub(crate) struct Input<R> {
     reader: R,

@@ -26,7 +26,7 @@ enum Fault {
 }
 
 // From any reader to any writer. 0 where the script was read to its end, or its first line is bad; 1 where the answers can't be written; 2 where the script
-// can't be read. What a caller in C is told, so a number.
+// can't be read: a number still, since the README names it and C is told it.
 pub fn play_script<R: io::Read + Drop, W: io::Write + Drop>(input: R, output: W) -> u32
     ensures { result ≤ 2 }
 {

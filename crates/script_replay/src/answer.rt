@@ -8,6 +8,7 @@ use text::{decimal, hex};
 // The longest answer has 2 digits, 480 bytes in hex, a tab and a newline.
 pub const ANSWER_SIZE: usize = 1024;
 
+// A number, as `put_answer` takes one: it is what is printed.
 pub const ERR_SYNTAX: u32 = 15;
 
 // To the front of a buffer; the rest stays as it was.

@@ -12,7 +12,7 @@ use text::scan;
 // One byte more than a line may have, so that what is kept of a longer one is too long.
 pub const HELD_SIZE: usize = LINE_LIMIT + 1;
 
-// How many bytes are held of the line, how many of the read were taken, and whether the line is whole.
+// How many bytes are held of the line, how many of the read were taken, and whether the line is whole: all three always, so no Option.
 #[derive(Clone, Copy)]
 pub struct Gathered {
     pub len: usize,
