@@ -5,6 +5,7 @@
 --   option_of, given, binding          what a name has, as the code hands it on
 --   authentic, fresh                 the tests for 11, and for 12 of a record with flag 8, pass
 --   downgrade_tests, offset_tests      the test for 12 of a record without it, and the one for 14
+--   stored_tests                      a set's tests of the record that the card holds
 --   keyless_tests, keyed_tests         a get's tests of what the name has: those that need no key, and those of a record that is well formed
 --   Judgement, judgement               a call's status, and the slots that the name has; what the code has of it
 --   judged                           the same, once the tests before the look-up have passed
