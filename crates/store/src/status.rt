@@ -50,14 +50,12 @@ impl Refusal {
     }
 }
 
-pub const OK: u32 = 0;
-
 // The number of an answer, for callers that have no enum.
 pub fn number<T: Copy>(answer: Result<T, Refusal>) -> u32
     ensures { result ≡ status_of answer }
 {
     match answer {
-        Ok(_) => OK,
+        Ok(_) => 0,
         Err(refusal) => refusal.code(),
     }
 }
