@@ -1,12 +1,12 @@
 // The CMAC of a record, computed and compared. 02, No. 3: both comparisons run over all sixteen bytes and hand back the bits in which some pair differs.
-ghost use Rattle.std.specs.Prelude.{◌≡◌, true, length};
+ghost use Rattle.std.specs.Prelude.{◌≡◌, length};
 ghost use Rattle.cipher.specs.Device.{IsPrepared};
 ghost use Rattle.buffers.specs.Compare.{diff_accumulate};
-ghost use Rattle.spec.specs.Record.{metadata_of, stored_data_of, tag_of, well_formed, record_cmac};
+ghost use Rattle.spec.specs.Record.{metadata_of, stored_data_of, tag_of, record_cmac};
 ghost use Rattle.records.specs.Parts.{cmac_over};
 
 use crate::keys::Keys;
-use crate::record;
+use crate::record::Record;
 use buffers::{compare, parts};
 
 impl Keys<'_> {
@@ -20,24 +20,23 @@ impl Keys<'_> {
     }
 
     // The bits in which a record's CMAC differs from the computed one: none where it verifies.
-    pub fn mac_difference(&self, r: &[u8]) -> u8
-        requires r_value { well_formed r.now ≡ true }
-        requires ready { IsPrepared self.now.device.now }
-        ensures { result ≡ diff_accumulate (record_cmac self.now.device.now.key self.now.name.now (metadata_of r.now) (stored_data_of r.now)) (tag_of r.now) }
+    pub fn mac_difference(&self, r: Record<'_>) -> u8
+        requires { IsPrepared self.now.device.now }
+        ensures { result ≡ diff_accumulate (record_cmac self.now.device.now.key self.now.name.now (metadata_of r.entry.bytes.now) (stored_data_of r.entry.bytes.now)) (tag_of r.entry.bytes.now) }
     {
-        let end = r.len() - 16;
-        let computed = self.record_cmac(&r[..end]);
-        let stored = record::record_tag(r);
+        let end = r.bytes.len() - 16;
+        let computed = self.record_cmac(&r.bytes[..end]);
+        let stored = r.tag();
         compare::tag_difference(computed, stored)
     }
 }
 
 // The bits in which a record's CMAC differs from the copy that was kept elsewhere.
-pub fn copy_difference(copy: &[u8], r: &[u8]) -> u8
-    requires { (length copy.now ≡ 16) × (well_formed r.now ≡ true) }
-    ensures { result ≡ diff_accumulate copy.now (tag_of r.now) }
+pub fn copy_difference(copy: &[u8], r: Record<'_>) -> u8
+    requires { length copy.now ≡ 16 }
+    ensures { result ≡ diff_accumulate copy.now (tag_of r.entry.bytes.now) }
 {
     let kept = parts::array::<16>(copy);
-    let stored = record::record_tag(r);
+    let stored = r.tag();
     compare::tag_difference(kept, stored)
 }

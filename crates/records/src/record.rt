@@ -1,6 +1,7 @@
-// A stored record: whether it is valid, and its fields. Metadata size at 0, revision at 2, data size at 4, flags at 8, IV at 12,
+// A stored record: whether it is well formed, and its fields. Metadata size at 0, revision at 2, data size at 4, flags at 8, IV at 12,
 // data at 20, the CMAC in the last 16 bytes.
-ghost use Rattle.std.specs.Prelude.{◌≡◌, true, ◌||◌, length, ◌≤◌};
+ghost use Rattle.std.specs.Prelude.{◌≡◌, true, ◌||◌, length, ◌≤◌, IfSome};
+ghost use Rattle.std.specs.Option.{is_some};
 ghost use Rattle.buffers.specs.Bytes.{all_zero};
 ghost use Rattle.spec.specs.Record.{data_size_of, flags_of, tag_of, well_formed};
 ghost use Rattle.records.specs.Parts.{fields_valid, zeros_valid};
@@ -51,25 +52,42 @@ fn zeros_valid(r: &[u8]) -> bool
         && zero_unless(flags::require_integrity(flags), &r[tag..])
 }
 
-pub fn record_flags(r: &[u8]) -> u32
-    requires { well_formed r.now ≡ true }
-    ensures { result ≡ flags_of r.now }
-{
-    numbers::le_at(r, 8, 4)
+// A record that is well formed.
+#[derive(Clone, Copy)]
+pub struct Record<'a> {
+    pub bytes: &'a [u8],
+    ghost valid: { well_formed bytes.now ≡ true },
 }
 
-pub fn record_data_size(r: &[u8]) -> u32
-    requires { well_formed r.now ≡ true }
-    ensures { result ≡ data_size_of r.now }
-{
-    numbers::le_at(r, 4, 4)
-}
+impl<'a> Record<'a> {
+    pub fn read(bytes: &'a [u8]) -> Option<Record<'a>>
+        ensures some { is_some result ≡ well_formed bytes.now }
+        ensures bytes { IfSome result (λ r. r.bytes.now ≡ bytes.now) }
+    {
+        if record_valid(bytes) {
+            Some(Record { bytes })
+        } else {
+            None
+        }
+    }
 
-// The CMAC as stored.
-pub(crate) fn record_tag(r: &[u8]) -> [u8; 16]
-    requires { well_formed r.now ≡ true }
-    ensures { result ≡ tag_of r.now }
-{
-    let at = r.len() - 16;
-    parts::array::<16>(&r[at..])
+    pub fn flags(self) -> u32
+        ensures { result ≡ flags_of self.entry.bytes.now }
+    {
+        numbers::le_at(self.bytes, 8, 4)
+    }
+
+    pub fn data_size(self) -> u32
+        ensures { result ≡ data_size_of self.entry.bytes.now }
+    {
+        numbers::le_at(self.bytes, 4, 4)
+    }
+
+    // The CMAC as stored.
+    pub(crate) fn tag(self) -> [u8; 16]
+        ensures { result ≡ tag_of self.entry.bytes.now }
+    {
+        let at = self.bytes.len() - 16;
+        parts::array::<16>(&self.bytes[at..])
+    }
 }

@@ -1,8 +1,8 @@
 // Get and info: a record is judged, and its data or its size and flags handed out.
-ghost use Rattle.std.specs.Prelude.{◌≡◌, true, [], ◌∷◌, ◌≤◌, length, IfOk};
+ghost use Rattle.std.specs.Prelude.{◌≡◌, [], ◌∷◌, ◌≤◌, length, IfOk};
 ghost use Rattle.std.proofs.Math.Option.{some};
 ghost use Rattle.cipher.specs.Device.{IsPrepared};
-ghost use Rattle.spec.specs.Record.{require_replay_protection, well_formed, data_size_of, flags_of};
+ghost use Rattle.spec.specs.Record.{require_replay_protection, data_size_of, flags_of};
 ghost use Rattle.spec.specs.Area.{kv_format, lookup};
 ghost use Rattle.spec.specs.Status.{ok, first_of};
 ghost use Rattle.spec.specs.Decisions.{get_held, read_count, read_output};
@@ -20,7 +20,8 @@ use cipher::kdf;
 use cipher::kdf::DeviceKey;
 use cipher::tables::Tables;
 use records::keys::Keys;
-use records::{flags as flag, mac, record};
+use records::record::Record;
+use records::{flags as flag, mac};
 use slots::names;
 
 // 1 to 3: what a get asks before it looks the name up.
@@ -31,23 +32,21 @@ pub fn early_status(kv: &[u8], rbp: &[u8], device_key: &[u8], name: &[u8]) -> Re
 }
 
 // The record's CMAC verifies, where integrity is flagged.
-fn is_authentic(keys: &Keys, stored: &[u8]) -> bool
-    requires stored_value { well_formed stored.now ≡ true }
-    requires ready_for { ReadyFor (flags_of stored.now) keys.now.device.now }
-    ensures { result ≡ authentic keys.now.device.now.key keys.now.name.now stored.now }
+fn is_authentic(keys: &Keys, stored: Record<'_>) -> bool
+    requires { ReadyFor (flags_of stored.bytes.now) keys.now.device.now }
+    ensures { result ≡ authentic keys.now.device.now.key keys.now.name.now stored.entry.bytes.now }
 {
-    if !flag::require_integrity(record::record_flags(stored)) {
+    if !flag::require_integrity(stored.flags()) {
         return true;
     }
     keys.mac_difference(stored) == 0
 }
 
 // The record is the one that the chip knows, where replay protection is flagged.
-fn is_fresh(tag: Option<[u8; 16]>, stored: &[u8]) -> bool
-    requires { well_formed stored.now ≡ true }
-    ensures { result ≡ fresh (option_of tag) stored.now }
+fn is_fresh(tag: Option<[u8; 16]>, stored: Record<'_>) -> bool
+    ensures { result ≡ fresh (option_of tag) stored.entry.bytes.now }
 {
-    if !flag::require_replay_protection(record::record_flags(stored)) {
+    if !flag::require_replay_protection(stored.flags()) {
         return true;
     }
     match tag {
@@ -58,11 +57,10 @@ fn is_fresh(tag: Option<[u8; 16]>, stored: &[u8]) -> bool
 
 // 14, or done.
 #[tactic(auto, unfolding(spec::specs::Status::refuse_if))]
-fn offset_status(stored: &[u8], offset: usize) -> Result<(), Refusal>
-    requires { well_formed stored.now ≡ true }
-    ensures { status_of result ≡ first_of (offset_tests offset stored.now) }
+fn offset_status(stored: Record<'_>, offset: usize) -> Result<(), Refusal>
+    ensures { status_of result ≡ first_of (offset_tests offset stored.entry.bytes.now) }
 {
-    if (record::record_data_size(stored) as usize) < offset {
+    if (stored.data_size() as usize) < offset {
         return Err(Refusal::Offset);
     }
     Ok(())
@@ -70,9 +68,9 @@ fn offset_status(stored: &[u8], offset: usize) -> Result<(), Refusal>
 
 // 12 where the chip has a name that the card lacks, else 6; then 8: what needs no key. The record, where there is one and it is well formed.
 #[tactic(auto, using(crate::proofs::Given::some_option), unfolding(spec::specs::Status::refuse_if))]
-pub fn keyless_status<'a>(held: Held<'a>) -> Result<&'a [u8], Refusal>
+pub fn keyless_status<'a>(held: Held<'a>) -> Result<Record<'a>, Refusal>
     ensures tests { status_of result ≡ first_of (keyless_tests (binding held.entry)) }
-    ensures stored { IfOk result (λ r. (given held.entry.stored ≡ some r.now) × (well_formed r.now ≡ true)) }
+    ensures stored { IfOk result (λ r. given held.entry.stored ≡ some r.bytes.now) }
 {
     let Some(stored) = held.stored else {
         if held.tag.is_some() {
@@ -80,10 +78,7 @@ pub fn keyless_status<'a>(held: Held<'a>) -> Result<&'a [u8], Refusal>
         }
         return Err(Refusal::NotFound);
     };
-    if !record::record_valid(stored) {
-        return Err(Refusal::InvalidRecord);
-    }
-    Ok(stored)
+    Record::read(stored).ok_or(Refusal::InvalidRecord)
 }
 
 // 11, 12 with replay protection and without, 14.
@@ -91,12 +86,11 @@ pub fn keyless_status<'a>(held: Held<'a>) -> Result<&'a [u8], Refusal>
 pub fn held_status(
     keys: &Keys,
     offset: usize,
-    stored: &[u8],
+    stored: Record<'_>,
     tag: Option<[u8; 16]>,
 ) -> Result<(), Refusal>
-    requires stored_value { well_formed stored.now ≡ true }
-    requires ready_for { ReadyFor (flags_of stored.now) keys.now.device.now }
-    ensures { status_of result ≡ first_of (keyed_tests keys.now.device.now.key keys.now.name.now offset stored.now (option_of tag)) }
+    requires { ReadyFor (flags_of stored.bytes.now) keys.now.device.now }
+    ensures { status_of result ≡ first_of (keyed_tests keys.now.device.now.key keys.now.name.now offset stored.entry.bytes.now (option_of tag)) }
 {
     if !is_authentic(keys, stored) {
         return Err(Refusal::Authentication);
@@ -104,17 +98,17 @@ pub fn held_status(
     if !is_fresh(tag, stored) {
         return Err(Refusal::Rollback);
     }
-    judge::downgrade_status(record::record_flags(stored), tag.is_some())?;
+    judge::downgrade_status(stored.flags(), tag.is_some())?;
     offset_status(stored, offset)
 }
 
 // The device key, prepared where the record's flags ask for keys.
-fn key_for(tables: &Tables, device_key: &[u8], stored: &[u8]) -> DeviceKey
-    requires { (length device_key.now ≡ 16) × (well_formed stored.now ≡ true) }
+fn key_for(tables: &Tables, device_key: &[u8], stored: Record<'_>) -> DeviceKey
+    requires { length device_key.now ≡ 16 }
     ensures key_value { result.key ≡ device_key.now }
-    ensures ready_for { ReadyFor (flags_of stored.now) result }
+    ensures ready_for { ReadyFor (flags_of stored.entry.bytes.now) result }
 {
-    let wanted = flag::needs_keys(record::record_flags(stored));
+    let wanted = flag::needs_keys(stored.flags());
     kdf::prepare_if(wanted, tables, parts::array::<16>(device_key))
 }
 
@@ -124,10 +118,10 @@ fn accepted_record<'a>(
     name: &[u8],
     offset: usize,
     held: Held<'a>,
-) -> Result<&'a [u8], Refusal>
+) -> Result<Record<'a>, Refusal>
     requires { length device_key.now ≡ 16 }
     ensures tests { status_of result ≡ first_of (get_held require_replay_protection device_key.now name.now offset (binding held.entry)) }
-    ensures stored { IfOk result (λ r. (given held.entry.stored ≡ some r.now) × (well_formed r.now ≡ true)) }
+    ensures stored { IfOk result (λ r. given held.entry.stored ≡ some r.bytes.now) }
 {
     let stored = keyless_status(held)?;
     let tables = Tables::new();
@@ -147,9 +141,9 @@ pub fn judge<'a>(
     device_key: &[u8],
     name: &[u8],
     offset: usize,
-) -> Judged<&'a [u8]>
+) -> Judged<Record<'a>>
     ensures judged { judgement result ≡ judged kv.now rbp.now name.now (get_early kv.now rbp.now device_key.now name.now) (get_held require_replay_protection device_key.now name.now offset (binding_of kv.now rbp.now name.now)) }
-    ensures stored { IfOk result.verdict (λ r. (lookup kv_format kv.now name.now ≡ some r.now) × (well_formed r.now ≡ true)) }
+    ensures stored { IfOk result.verdict (λ r. lookup kv_format kv.now name.now ≡ some r.bytes.now) }
 {
     if let Err(refusal) = early_status(kv, rbp, device_key, name) {
         return judge::refused(refusal);
@@ -163,31 +157,30 @@ pub fn judge<'a>(
 }
 
 // The bytes of an accepted record, from an offset, to the front of the output. Those from its front need no array besides.
-pub fn read_record(keys: &Keys, stored: &[u8], offset: usize, output: &mut [u8]) -> usize
-    requires stored_value { (well_formed stored.now ≡ true) × (offset ≤ data_size_of stored.now) }
-    requires ready_for { ReadyFor (flags_of stored.now) keys.now.device.now }
-    ensures value { result ≡ read_count offset output.old stored.now }
-    ensures output_after { output.new ≡ read_output keys.now.device.now.key keys.now.name.now offset output.old stored.now }
+pub fn read_record(keys: &Keys, stored: Record<'_>, offset: usize, output: &mut [u8]) -> usize
+    requires in_range { offset ≤ data_size_of stored.bytes.now }
+    requires ready_for { ReadyFor (flags_of stored.bytes.now) keys.now.device.now }
+    ensures value { result ≡ read_count offset output.old stored.entry.bytes.now }
+    ensures output_after { output.new ≡ read_output keys.now.device.now.key keys.now.name.now offset output.old stored.entry.bytes.now }
 {
     if offset == 0 {
         return keys.open_front(stored, output);
     }
     let plain = keys.open_record(stored);
-    let end = record::record_data_size(stored) as usize;
+    let end = stored.data_size() as usize;
     parts::copy_fitting(&plain[offset..end], output)
 }
 
-// A get of a record that is well formed. Plaintext reaches the output only after all tests.
+// A get of a record that was found. Plaintext reaches the output only after all tests.
 fn get_record(
     keys: &Keys,
     offset: usize,
-    stored: &[u8],
+    stored: Record<'_>,
     tag: Option<[u8; 16]>,
     output: &mut [u8],
 ) -> Result<usize, Refusal>
-    requires stored_value { well_formed stored.now ≡ true }
-    requires ready_for { ReadyFor (flags_of stored.now) keys.now.device.now }
-    ensures { record { status = status_of result; numbers = count_of result ∷ []; output = output.new } ≡ got_of keys.now.device.now.key keys.now.name.now offset stored.now (option_of tag) output.old }
+    requires { ReadyFor (flags_of stored.bytes.now) keys.now.device.now }
+    ensures { record { status = status_of result; numbers = count_of result ∷ []; output = output.new } ≡ got_of keys.now.device.now.key keys.now.name.now offset stored.entry.bytes.now (option_of tag) output.old }
 {
     held_status(keys, offset, stored, tag)?;
     Ok(read_record(keys, stored, offset, output))
@@ -239,7 +232,7 @@ pub fn get_info(kv: &[u8], rbp: &[u8], device_key: &[u8], name: &[u8]) -> Result
 {
     let stored = judge(kv, rbp, device_key, name, 0).verdict?;
     Ok(Info {
-        data_size: record::record_data_size(stored),
-        flags: record::record_flags(stored),
+        data_size: stored.data_size(),
+        flags: stored.flags(),
     })
 }

@@ -13,7 +13,8 @@ ghost use Rattle.store.specs.Parts.{remove_early, given, judgement, judged, reco
 use crate::judge::Judged;
 use crate::status::Refusal;
 use crate::{guard, judge};
-use records::{flags as flag, record};
+use records::flags as flag;
+use records::record::Record;
 use slots::areas::Found;
 use slots::{AreaKind, areas, names};
 
@@ -26,10 +27,10 @@ pub fn held_status(stored: Option<&[u8]>) -> Result<u32, Refusal>
     let Some(stored) = stored else {
         return Err(Refusal::NotFound);
     };
-    if !record::record_valid(stored) {
+    let Some(stored) = Record::read(stored) else {
         return Err(Refusal::InvalidRecord);
-    }
-    let flags = record::record_flags(stored);
+    };
+    let flags = stored.flags();
     if flag::write_once(flags) {
         return Err(Refusal::AlreadyExists);
     }

@@ -18,8 +18,9 @@ use crate::{guard, judge};
 use buffers::parts;
 use cipher::kdf;
 use cipher::tables::Tables;
+use records::flags as flag;
 use records::keys::Keys;
-use records::{flags as flag, record};
+use records::record::Record;
 use slots::areas::{Area, Found};
 use slots::{AreaKind, areas, names};
 
@@ -62,10 +63,10 @@ pub fn early_status(
 fn stored_status(flags: u32, stored: &[u8]) -> Result<(), Refusal>
     ensures { status_of result ≡ first_of (stored_tests flags stored.now) }
 {
-    if !record::record_valid(stored) {
+    let Some(stored) = Record::read(stored) else {
         return Err(Refusal::InvalidRecord);
-    }
-    let old_flags = record::record_flags(stored);
+    };
+    let old_flags = stored.flags();
     if flag::write_once(old_flags) || flag::write_once(flags) {
         return Err(Refusal::AlreadyExists);
     }

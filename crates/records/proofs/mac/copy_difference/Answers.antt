@@ -5,6 +5,6 @@ use Rattle.records.proofs.mac.copy_difference.Goals as goal
 
 pub returns : goal.returns
 returns c =
-    let record-tag = c.record_tag-stored in
+    let record-tag = c.tag-stored in
     let array = c.array-kept in
     c.tag_difference.ensures ∙ ap₂ diff_accumulate array.ensures record-tag.ensures

@@ -20,7 +20,7 @@ returns-in_err-held_status-clause-tests c =
     let args = c.args in
     let b = binding args.held in
     let key = c.key_for-device.ensures.key_value in
-    let stored = sym (ap record_of c.in_ok-stored.ensures.stored.0) in
+    let stored = sym (ap record_of c.in_ok-stored.ensures.stored) in
     let last = handed_status _ _ c.from_residual-in_err-held_status.ensures ∙ c.in_err-held_status.ensures
     ∙ (λ i. first_of (keyed_tests (key i) args.name.now args.offset (stored i) b.tag)) in
     went_on (keyless_tests b) (keyed_tests args.device_key.now args.name.now args.offset (record_of b.stored) b.tag)
@@ -32,7 +32,7 @@ returns-clause-tests c =
     let args = c.args in
     let b = binding args.held in
     let key = c.key_for-device.ensures.key_value in
-    let stored = sym (ap record_of c.in_ok-stored.ensures.stored.0) in
+    let stored = sym (ap record_of c.in_ok-stored.ensures.stored) in
     let last = c.in_ok-held_status.ensures ∙ (λ i. first_of (keyed_tests (key i) args.name.now args.offset (stored i) b.tag)) in
     went_on (keyless_tests b) (keyed_tests args.device_key.now args.name.now args.offset (record_of b.stored) b.tag)
     refl c.in_ok-stored.ensures.tests 0 last

@@ -23,11 +23,7 @@ returns-in_err-stored c =
     b c.look_up.ensures.held args.output.now _ c.in_err-stored.ensures.tests (refused_number _)
 
 pub key_for-device-requires : goal.key_for-device-requires
-key_for-device-requires c =
-    (get_key c.args.kv.now c.args.rbp.now c.args.device_key.now c.args.name.now (sym c.in_ok-early_status.ensures), c.in_ok-stored.ensures.stored.1)
-
-pub get_record-requires : goal.get_record-requires
-get_record-requires c = record { stored_value = c.in_ok-stored.ensures.stored.1; ready_for = c.key_for-device.ensures.ready_for }
+key_for-device-requires c = get_key c.args.kv.now c.args.rbp.now c.args.device_key.now c.args.name.now (sym c.in_ok-early_status.ensures)
 
 pub returns : goal.returns
 returns c =
@@ -36,4 +32,4 @@ returns c =
     let seen = c.in_ok-stored in
     c.get_record.ensures
     ∙ got_record args.kv.now args.rbp.now args.device_key.now args.name.now args.offset (sym c.in_ok-early_status.ensures)
-    b c.look_up.ensures.held seen.ensures.tests seen.stored.now seen.ensures.stored.0 _ c.key_for-device.ensures.key_value args.output.now
+    b c.look_up.ensures.held seen.ensures.tests seen.stored.bytes.now seen.ensures.stored _ c.key_for-device.ensures.key_value args.output.now

@@ -27,16 +27,10 @@ returns-in_err-stored c =
     ∙ ap refused (sym was)
     ∙ info-refused args.kv.now args.rbp.now args.device_key.now args.name.now (judgement judge.result) judge.ensures.judged (λ z. refused_number _ (sym was ∙ z))
 
-pub record_data_size-requires : goal.record_data_size-requires
-record_data_size-requires c = let seen = rw c.in_ok-stored.was at c.judge.ensures.stored in seen.1
-
-pub record_flags-requires : goal.record_flags-requires
-record_flags-requires c = let seen = rw c.in_ok-stored.was at c.judge.ensures.stored in seen.1
-
 pub returns : goal.returns
 returns c =
     let args = c.args in
     let judge = c.judge in
     let seen = rw c.in_ok-stored.was at judge.ensures.stored in
     info-done args.kv.now args.rbp.now args.device_key.now args.name.now (judgement judge.result) judge.ensures.judged (ap status_of c.in_ok-stored.was)
-    _ seen.0 c.record_data_size.result c.record_flags.result c.record_data_size.ensures c.record_flags.ensures
+    _ seen c.data_size.result c.flags.result c.data_size.ensures c.flags.ensures

@@ -17,9 +17,6 @@ returns-in_err-stored c =
     ∙ keyless_refused args.kv.now args.rbp.now keys.device.now.key keys.name.now args.offset c.requires.name_value
     b c.look_up.ensures.held args.output.now _ c.in_err-stored.ensures.tests (refused_number _)
 
-pub get_record-requires : goal.get_record-requires
-get_record-requires c = record { stored_value = c.in_ok-stored.ensures.stored.1; ready_for = λ _. c.requires.ready }
-
 pub returns : goal.returns
 returns c =
     let args = c.args in
@@ -28,4 +25,4 @@ returns c =
     let seen = c.in_ok-stored in
     c.get_record.ensures
     ∙ got_record args.kv.now args.rbp.now keys.device.now.key keys.name.now args.offset c.requires.name_value
-    b c.look_up.ensures.held seen.ensures.tests seen.stored.now seen.ensures.stored.0 _ refl args.output.now
+    b c.look_up.ensures.held seen.ensures.tests seen.stored.bytes.now seen.ensures.stored _ refl args.output.now

@@ -11,21 +11,20 @@ returns-in_err-held_status c =
     let args = c.args in
     let keys = args.keys.now in
     handed_answer _ _ args.output.now c.from_residual.ensures
-    ∙ read-refused keys.device.now.key keys.name.now args.offset args.stored.now (option_of args.tag) args.output.now
+    ∙ read-refused keys.device.now.key keys.name.now args.offset args.stored.bytes.now (option_of args.tag) args.output.now
     _ (sym (ap status_of c.in_err-held_status.was) ∙ c.held_status.ensures) (refused_number _)
 
-pub read_record-requires-clause-stored_value : goal.read_record-requires-clause-stored_value
-read_record-requires-clause-stored_value c =
+pub read_record-requires-clause-in_range : goal.read_record-requires-clause-in_range
+read_record-requires-clause-in_range c =
     let args = c.args in
     let keys = args.keys.now in
-    let in_range = read_in_range keys.device.now.key keys.name.now args.offset args.stored.now (option_of args.tag) args.output.now
-    0 (sym (ap status_of c.in_ok-held_status.was) ∙ c.held_status.ensures) refl in
-    (c.requires.stored_value, in_range)
+    read_in_range keys.device.now.key keys.name.now args.offset args.stored.bytes.now (option_of args.tag) args.output.now
+    0 (sym (ap status_of c.in_ok-held_status.was) ∙ c.held_status.ensures) refl
 
 pub returns : goal.returns
 returns c =
     let args = c.args in
     let keys = args.keys.now in
     let read = c.read_record.ensures in
-    read_done keys.device.now.key keys.name.now args.offset args.stored.now (option_of args.tag) args.output.now
+    read_done keys.device.now.key keys.name.now args.offset args.stored.bytes.now (option_of args.tag) args.output.now
     0 (sym (ap status_of c.in_ok-held_status.was) ∙ c.held_status.ensures) refl _ _ read.value read.output_after

@@ -11,10 +11,10 @@ use Rattle.store.proofs.get.is_fresh.Goals as goal
 
 pub returns-in-Some : goal.returns-in-Some
 returns-in-Some c =
-    let record-flags = c.record_flags in
+    let record-flags = c.flags in
     let flagged = is_true c.require_replay_protection.ensures (ap not c.if-not-require_replay_protection.false) in
     let tag = c.in-Some.tag in
     let sized : length tag ≡ 16 = search rules in
     ap (λ (d : ℕ). eqb d 0) c.copy_difference.ensures
-    ∙ copy-decided tag c.args.stored.now sized c.requires
+    ∙ copy-decided tag c.args.stored.bytes.now sized c.args.stored.valid
     ∙ rw (← record-flags.ensures, flagged, c.in-Some.is) (sym (not-not _))

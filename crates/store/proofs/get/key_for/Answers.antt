@@ -11,9 +11,9 @@ returns c =
     let prepare-if = c.prepare_if in
     let array16 = c.array in
     let needs-keys = c.needs_keys-wanted in
-    let record-flags = c.record_flags in
+    let record-flags = c.flags in
     let args = c.args in
     let asked = needs-keys.ensures ∙ ap (λ (f : ℕ). needs_keys f) record-flags.ensures in record {
       key_value = key-kept needs-keys.result array16.result prepare-if.result prepare-if.ensures ∙ array16.ensures;
-      ready_for = ready_for needs-keys.result array16.result prepare-if.result prepare-if.ensures (flags_of args.stored.now) asked;
+      ready_for = ready_for needs-keys.result array16.result prepare-if.result prepare-if.ensures (flags_of args.stored.bytes.now) asked;
     }

@@ -3,14 +3,14 @@ use borrow.Author.Tests.{lt-leb, le-leb}
 use Rattle.spec.specs.Status.{refuse_if}
 use Rattle.store.proofs.get.offset_status.Goals as goal
 
-pub returns-then-record_data_size-offset : goal.returns-then-record_data_size-offset
+pub returns-then-data_size-offset : goal.returns-then-data_size-offset
 unfolding refuse_if
-returns-then-record_data_size-offset c =
-    let record-data-size = c.record_data_size in
-    rw (← record-data-size.ensures, lt-leb _ _ c.if-record_data_size-offset.true)
+returns-then-data_size-offset c =
+    let record-data-size = c.data_size in
+    rw (← record-data-size.ensures, lt-leb _ _ c.if-data_size-offset.true)
 
 pub returns : goal.returns
 unfolding refuse_if
 returns c =
-    let record-data-size = c.record_data_size in
-    rw (← record-data-size.ensures, le-leb _ _ c.if-record_data_size-offset.false)
+    let record-data-size = c.data_size in
+    rw (← record-data-size.ensures, le-leb _ _ c.if-data_size-offset.false)

@@ -19,39 +19,37 @@ returns-then-offset-eq0 c =
     let open-front = c.open_front in
     let if1 = c.if-offset-eq0 in
     let args = c.args in
-    let r = args.stored.now in
+    let r = args.stored.bytes.now in
     let out = args.output.now in
     let n : open-front.result ≡ min (length out) (data_size_of r - args.offset) = omega (arith, open-front.ensures.value) in
     record { value = n; output_after = open-front.ensures.output_after ∙ rw (n, if1.true) }
 
 pub slice_bounds-copy_fitting-end : goal.slice_bounds-copy_fitting-end
 slice_bounds-copy_fitting-end c =
-    let pre = c.requires in
     let args = c.args in
     let open-record = c.open_record-plain in
-    let record-data-size = c.record_data_size-end in
-    let r = args.stored.now in
+    let record-data-size = c.data_size-end in
+    let r = args.stored.bytes.now in
     let p = plaintext args.keys.now.device.now.key args.keys.now.name.now r in
-    let whole : length p ≡ data_size_of r = plaintext-length args.keys.now.device.now.key args.keys.now.name.now r (valid-record r pre.stored_value.0) in
-    let small : data_size_of r ≤ 480 = (valid-record r pre.stored_value.0).data_size in
+    let whole : length p ≡ data_size_of r = plaintext-length args.keys.now.device.now.key args.keys.now.name.now r (valid-record r args.stored.valid) in
+    let small : data_size_of r ≤ 480 = (valid-record r args.stored.valid).data_size in
     let long : length open-record.result ≡ 480 = ap length open-record.ensures ∙ length-zero_fill 480 p (omega arith) in
     omega (arith, record-data-size.ensures)
 
 pub returns : goal.returns
 unfolding read_count read_output
 returns c =
-    let pre = c.requires in
     let args = c.args in
     let open-record = c.open_record-plain in
-    let record-data-size = c.record_data_size-end in
+    let record-data-size = c.data_size-end in
     let copy-fitting = c.copy_fitting in
-    let r = args.stored.now in
+    let r = args.stored.bytes.now in
     let o = args.offset in
     let out = args.output.now in
     let p = plaintext args.keys.now.device.now.key args.keys.now.name.now r in
-    let whole : length p ≡ data_size_of r = plaintext-length args.keys.now.device.now.key args.keys.now.name.now r (valid-record r pre.stored_value.0) in
+    let whole : length p ≡ data_size_of r = plaintext-length args.keys.now.device.now.key args.keys.now.name.now r (valid-record r args.stored.valid) in
     let part : take (record-data-size.result - o) (drop o open-record.result) ≡ drop o p =
-    rw (open-record.ensures, record-data-size.ensures, ← whole) (data_part p (zeros (480 - length p)) o (rw whole pre.stored_value.1)) in
+    rw (open-record.ensures, record-data-size.ensures, ← whole) (data_part p (zeros (480 - length p)) o (rw whole c.requires.in_range)) in
     let n : copy-fitting.result ≡ min (length out) (data_size_of r - o) =
     copy-fitting.ensures.value ∙ ap (λ (l : List ℕ). min (length out) (length l)) part ∙ rw (length-drop o p, whole) in
     record { value = n; output_after = copy-fitting.ensures.dst_after ∙ ap (λ (l : List ℕ). take copy-fitting.result l ++ drop copy-fitting.result out) part ∙ rw n }

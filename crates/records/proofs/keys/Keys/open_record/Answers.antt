@@ -10,7 +10,7 @@ pub returns : goal.returns
 returns c =
     let open-front = c.open_front in
     let args = c.args in
-    let r = args.r.now in
-    let valid = valid-record r c.requires.r_value in
+    let r = args.r.bytes.now in
+    let valid = valid-record r args.r.valid in
     let all : open-front.result ≡ data_size_of r = omega (arith, open-front.ensures.value) in
     opened-filled args.self.now.device.now.key args.self.now.name.now r valid 480 _ open-front.result all open-front.ensures.output_after

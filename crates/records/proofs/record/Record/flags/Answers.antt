@@ -1,10 +1,10 @@
--- `records::record::record_flags`: a valid record has the field.
+-- `records::record::Record::flags`: a valid record has the field.
 use native.Mathlib.Omega.{arith}
 use borrow.Author.Rules.{rules}
 use Rattle.spec.proofs.Record.{valid-record}
-use Rattle.records.proofs.record.record_flags.Goals as goal
+use Rattle.records.proofs.record.Record.flags.Goals as goal
 
 pub le_at-requires : goal.le_at-requires
 le_at-requires c =
-    let valid = valid-record c.args.r.now c.requires in
+    let valid = valid-record c.args.self.bytes.now c.args.self.valid in
     (omega arith, search rules)
