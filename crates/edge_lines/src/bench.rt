@@ -19,7 +19,7 @@ const REGISTERS: usize = 216450;
 
 const MEMORY: usize = 228738;
 
-// The registers of a line's arguments come first; the name of a call that is tried stands in the first of them.
+// The registers of a line's arguments come first; the name of a call that is tried stands in the first of them. Numbers and no enum: an argument's place is one too.
 pub const NAME: usize = 0;
 
 pub const KEY: usize = 6;
@@ -236,7 +236,7 @@ impl Bench {
         read.is_ok()
     }
 
-    // Bytes written, or bits inverted, from an index on.
+    // Bytes written, or bits inverted, from an index on. A flag and no enum: two callers, each with its word beside it.
     fn change(&mut self, flips: bool, args: Args) -> bool {
         let n = args.values[2];
         let Some(at) = self.index(args.place, args.values[1], n) else {

@@ -3,7 +3,6 @@ ghost use Rattle.std.specs.Prelude.{◌≡◌, [], ◌∷◌};
 ghost use Rattle.mix.specs.Arrays as Arrays;
 ghost use Rattle.mix.specs.Calls as Mixes;
 
-use mix::arrays::Decoded;
 use mix::{arrays, find, persist};
 use store::status::number;
 
@@ -68,10 +67,7 @@ pub extern "C" fn securestore_decode_mix(
     ensures { record { status = result; session = session_id.new; count = sends.new; arrays = record { tags = tags.new; levels = levels.new; pans = pans.new } } ≡ Arrays.decode_sends mix.now (record { tags = tags.old; levels = levels.old; pans = pans.old }) }
 {
     let answer = arrays::decode_sends(mix, tags, levels, pans);
-    let decoded = answer.unwrap_or(Decoded {
-        session_id: 0,
-        count: 0,
-    });
+    let decoded = answer.unwrap_or_default();
     *session_id = decoded.session_id;
     *sends = decoded.count;
     number(answer)

@@ -2,7 +2,6 @@
 ghost use Rattle.std.specs.Prelude.{◌≡◌, [], ◌∷◌};
 ghost use Rattle.spec.specs.Calls as Calls;
 
-use store::answers::{Info, Iterated};
 use store::status::number;
 use store::{get, iterate, remove, reset, set};
 
@@ -50,10 +49,7 @@ pub extern "C" fn securestore_get_info(
     ensures { record { status = result; numbers = data_size.new ∷ flags.new ∷ []; output = [] } ≡ (Calls.store_get_info kv.now rbp.now device_key.now name.now).answer }
 {
     let answer = get::get_info(kv, rbp, device_key, name);
-    let info = answer.unwrap_or(Info {
-        data_size: 0,
-        flags: 0,
-    });
+    let info = answer.unwrap_or_default();
     *data_size = info.data_size;
     *flags = info.flags;
     number(answer)
@@ -86,10 +82,7 @@ pub extern "C" fn securestore_iterator_next(
     ensures { record { status = result; numbers = name_len.new ∷ next_slot.new ∷ []; output = name_buf.new } ≡ (Calls.store_iterator_next kv.now rbp.now prefix.now start_slot name_buf.old).answer }
 {
     let answer = iterate::iterator_next(kv, rbp, prefix, start_slot, name_buf);
-    let next = answer.unwrap_or(Iterated {
-        name_len: 0,
-        next_slot: 0,
-    });
+    let next = answer.unwrap_or_default();
     *name_len = next.name_len;
     *next_slot = next.next_slot;
     number(answer)

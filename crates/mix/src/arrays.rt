@@ -84,7 +84,7 @@ fn spread(mix: MonitorMix, tags: &mut [u8], levels: &mut [f32], pans: &mut [f32]
 }
 
 // What bytes say, beside the arrays.
-#[derive(Clone, Copy)]
+#[derive(Clone, Copy, Default)]
 pub struct Decoded {
     pub session_id: u64,
     pub count: usize,

@@ -4,6 +4,7 @@ ghost use Rattle.std.specs.Float.{binary32};
 ghost use Rattle.std.specs.Float.Ieee.{of_bits};
 ghost use Rattle.mix.specs.Range.{level_in_range, pan_in_range};
 
+// Two comparisons, as of `pan_in_range`: a range's `contains` reads no plainer, and its proof does not come by itself.
 pub fn level_in_range(level: f32) -> bool
     ensures { result ≡ level_in_range level }
 {

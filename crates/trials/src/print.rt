@@ -1,6 +1,7 @@
 // Standard output.
 const STDOUT: i32 = 1;
 
+// No Display: what is printed are a line's bytes, whatever they are.
 pub fn text(s: &[u8]) {
     io::write_all(STDOUT, s);
 }
