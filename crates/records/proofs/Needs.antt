@@ -1,19 +1,12 @@
--- Which flags ask for keys, and a device key that was prepared for them. Assumes nothing.
+-- A device key that was prepared where the flags ask for keys. Assumes nothing.
 use mathlib.Core.Path.{◌≡◌, sym, ap, ◌∙◌}
-use mathlib.Core.Bool.{Bool, true, cond}
+use mathlib.Core.Bool.{Bool, cond}
 use mathlib.Core.List.{List}
 use Prim.Native.Nat.{ℕ}
 use Rattle.cipher.specs.declared.kdf.DeviceKey.{DeviceKey}
 use Rattle.cipher.specs.Device.{prepared, bare}
 use Rattle.buffers.proofs.Split.{split}
-use Rattle.spec.specs.Record.{require_confidentiality, require_integrity}
 use Rattle.records.specs.Parts.{needs_keys, ReadyFor}
-
-pub confidential_needs : (flags : ℕ) → require_confidentiality flags ≡ true → needs_keys flags ≡ true
-confidential_needs flags h = rw h
-
-pub integrity_needs : (flags : ℕ) → require_integrity flags ≡ true → needs_keys flags ≡ true
-integrity_needs flags h = split (require_confidentiality flags) (λ e. rw e) (λ e. rw e h)
 
 -- what `prepare_if` gives
 module _ (wanted : Bool) (key : List ℕ) (d : DeviceKey) (e : d ≡ cond wanted (prepared key) (bare key)) where

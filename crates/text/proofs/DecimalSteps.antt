@@ -5,8 +5,8 @@ use mathlib.Core.List.{List, [], ◌∷◌, ◌++◌}
 use Prim.Native.Nat.{ℕ, zero, suc, ◌+◌, ◌-◌, ◌*◌, ◌/◌, ◌%◌, ◌^◌, ◌≤◌, ◌<◌}
 use native.Mathlib.Numerals.{add-one}
 use native.Mathlib.Omega.{arith}
-use borrow.Author.Tests.{lt-ltb, le-ltb, leb-true, le-leb, lt-leb}
-use lib.Dec.{leb, ltb}
+use borrow.Author.Tests.{lt-ltb, le-ltb, le-leb, lt-leb}
+use lib.Dec.{ltb}
 use lib.ListN.{length, get_or, drop, length-append}
 use lib.Seq.{drop-cons}
 use Rattle.std.specs.Prelude.{Option, Some, None, IfSome, IfNone}
@@ -15,7 +15,7 @@ use Rattle.std.specs.Option.{unwrap_or}
 use Rattle.std.proofs.lemmas.Bool.Decides.{nat_tests}
 use Rattle.text.specs.Hex.{within}
 use Rattle.text.specs.Decimal.{all_digits, is_decimal, value_after, decimal_value, read, places_before, places, digits, decimal_text}
-use Rattle.text.proofs.Split.{split, and-false}
+use Rattle.text.proofs.Split.{and-false}
 
 -- ---- one digit read
 
@@ -60,16 +60,6 @@ module _ (s : List ℕ) (most : ℕ) where
   pub read-good : is_decimal s ≡ true → decimal_value s ≤ most → Some (decimal_value s) ≡ read s most
   unfolding read
   read-good e h = rw (e, le-leb (decimal_value s) most h)
-
-  -- what is read is never over the most
-  value-within : IfSome (read s most) (λ n. n ≤ most)
-  unfolding read
-  value-within = split (is_decimal s)
-      (λ e. split (leb (decimal_value s) most) (λ f. rw (e, f) (leb-true (decimal_value s) most f)) (λ f. rw (e, f) tt))
-      (λ e. rw e tt)
-
-  pub with_bound : (r : Option ℕ) → r ≡ read s most → (r ≡ read s most) × IfSome r (λ n. n ≤ most)
-  with_bound r e = (e, rw e value-within)
 
 pub empty-bad : (s : List ℕ) → length s < 1 → is_decimal s ≡ false
 unfolding is_decimal
