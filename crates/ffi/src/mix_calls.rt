@@ -18,9 +18,7 @@ pub extern "C" fn securestore_store_mix(
 ) -> u32
     ensures { record { answer = record { status = result; numbers = []; output = [] }; after = record { kv = kv.new; rbp = rbp.new } } ≡ Mixes.store_encoded_mix kv.old rbp.old device_key.now name.now flags iv.now mix.now }
 {
-    number(persist::store_encoded_mix(
-        kv, rbp, device_key, name, flags, iv, mix,
-    ))
+    number(persist::store_encoded_mix(kv, rbp, device_key, name, flags, iv, mix))
 }
 
 #[unsafe(no_mangle)]
