@@ -128,6 +128,7 @@ impl Bench {
         bytes
     }
 
+    // Of card and chip, here and below: a line each, and nothing is said twice but the name.
     pub fn card(&self) -> &[u8] {
         span(&self.bytes, 0, self.lens.card)
     }

@@ -1,5 +1,5 @@
 // A mix as three arrays, for callers that have no enum: each send's tag, level and pan.
-ghost use Rattle.std.specs.Prelude.{◌≡◌, true, [], ◌∷◌, ◌++◌, ◌-◌, ◌≤◌, leb, length, replicate};
+ghost use Rattle.std.specs.Prelude.{◌≡◌, [], ◌∷◌, ◌++◌, ◌-◌, ◌≤◌, leb, length, replicate};
 ghost use Rattle.buffers.specs.Bytes.{every};
 ghost use Rattle.mix.specs.declared.monitor.AuxSend.TheVariants.{Muted};
 ghost use Rattle.store.specs.Answers.{status_of, value_or, count_of};

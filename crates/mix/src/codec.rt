@@ -73,7 +73,7 @@ pub fn encode_mix(mix: MonitorMix, mix_buf: &mut [u8]) -> Result<usize, Refusal>
     Ok(len)
 }
 
-// The sends that stand behind the header are all well formed.
+// The sends that stand behind the header are all well formed. Each is cut by its number, as in `read_sends`: no lemma of std says what `chunks_exact` gives.
 fn sends_valid(b: &[u8], count: usize) -> bool
     requires { (length b.now ≡ 9 + 9 * count) × (count ≤ 16) }
     ensures { result ≡ every send_valid (sends_at count b.now) }

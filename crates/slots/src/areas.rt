@@ -1,9 +1,9 @@
 // An area of slots, tested and edited where it is lent.
-ghost use Rattle.std.specs.Prelude.{◌≡◌, true, [], ◌++◌, ◌-◌, ◌≤◌, ◌<◌, ◌&&◌, ℕ, List, Bool, length, get_or, take, drop, IfSome};
-ghost use Rattle.std.specs.Option.{is_some, option_copied};
+ghost use Rattle.std.specs.Prelude.{◌≡◌, true, [], ◌++◌, ◌-◌, ◌≤◌, ◌<◌, ◌&&◌, ℕ, List, Bool, length, get_or, take, drop};
+ghost use Rattle.std.specs.Option.{option_copied};
 ghost use Rattle.buffers.specs.Bytes.{zeros};
 ghost use Rattle.spec.specs.Slots.{first_index};
-ghost use Rattle.spec.specs.Area.{kv_format, payload_size, slot_free, slot_used, slot_valid, slot_name, make_slot, slot_count, slots, sized, intact, has_space};
+ghost use Rattle.spec.specs.Area.{kv_format, payload_size, slot_free, slot_used, slot_name, make_slot, slot_count, slots, sized, intact, has_space};
 ghost use Rattle.spec.specs.Calls.{slot_has_prefix, next_match};
 ghost use Rattle.slots.specs.Kind.{format_of};
 ghost use Rattle.slots.specs.Search.{Tests, FailsBefore};
@@ -174,7 +174,7 @@ impl<'a> Area<'a> {
         self.slot(i).has_prefix(prefix)
     }
 
-    // 01: the next slot of a "walk", which goes over the card
+    // 01: the next slot of a "walk", which goes over the card. By numbers, of which one is the answer.
     pub fn next_match(&self, prefix: &[u8], start: usize) -> usize
         requires { self.now.kind ≡ AreaKind.Kv }
         ensures { result ≡ next_match self.now.bytes.now prefix.now start }

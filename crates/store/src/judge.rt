@@ -41,7 +41,7 @@ fn owned_tag(tag: Option<&[u8]>) -> Option<[u8; 16]>
     }
 }
 
-// No struct of both areas: the calls take them one by one, as C hands them over, and this alone reads both.
+// No struct of both areas: the calls take them one by one, as C hands them over, and only this and a set's `verdict` read both.
 pub(crate) fn look_up<'a>(kv: &'a [u8], rbp: &'a [u8], name: &[u8]) -> Looked<'a>
     requires { Undamaged kv.now rbp.now }
     ensures held { binding result.held ≡ binding_of kv.now rbp.now name.now }

@@ -41,7 +41,7 @@ pub fn argument_status(name: &[u8], flags: u32, data: &[u8]) -> Result<(), Refus
     Ok(())
 }
 
-// 1 to 5: what a set asks before it looks the name up.
+// 1 to 5: what a set asks before it looks the name up. No struct of a set's arguments: C hands them over one by one, and each function here takes others of them.
 #[tactic(auto, unfolding(spec::specs::Status::refuse_if))]
 pub fn early_status(
     kv: &[u8],

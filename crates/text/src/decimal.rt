@@ -30,7 +30,7 @@ fn places(n: u64) -> usize
     n.checked_ilog10().unwrap_or(0) as usize + 1
 }
 
-// The last k digits of a number, from the last to the first.
+// The last k digits of a number, from the last to the first. By index: the clauses of `iter_mut().rev()` do not say what a loop wrote.
 fn put_decimal(n: u64, k: usize, out: &mut [u8])
     requires { k ≤ length out.old }
     ensures { out.new ≡ digits k n ++ drop k out.old }
