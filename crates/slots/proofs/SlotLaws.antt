@@ -1,6 +1,6 @@
 -- A slot's shape, as code tests it: in a well-shaped slot the state byte tells a free one.
 use mathlib.Core.Path.{◌≡◌, refl, sym, ◌∙◌}
-use mathlib.Core.Bool.{true, false, ◌&&◌, or-false}
+use mathlib.Core.Bool.{true, false, ◌&&◌, or-false, or-true}
 use mathlib.Core.List.{List}
 use mathlib.Core.Option.{some}
 use Prim.Native.Nat.{ℕ, ◌+◌, ◌-◌}
@@ -44,6 +44,10 @@ module _ (F : Format) (s : List ℕ) where
   pub holds-used : (n : List ℕ) → slot_valid F s ≡ true → holds F n s ≡ true → slot_used F s ≡ true
   unfolding slot_holder
   holds-used n v h = split (slot_free s) (λ e. clash false (rw e at h) refl) (λ e. taken-is-used v e)
+
+  pub used-valid : slot_used F s ≡ true → slot_valid F s ≡ true
+  unfolding slot_valid
+  used-valid h = rw h (or-true (slot_free s))
 
   pub used-not-free : slot_used F s ≡ true → slot_free s ≡ false
   used-not-free h = not_free s (used-slot F s h).state

@@ -7,13 +7,13 @@ ghost use Rattle.spec.specs.Area.{kv_format, payload_size, slot_free, slot_used,
 ghost use Rattle.spec.specs.Calls.{slot_has_prefix, next_match};
 ghost use Rattle.slots.specs.Kind.{format_of};
 ghost use Rattle.slots.specs.Search.{Tests, FailsBefore};
-ghost use Rattle.slots.specs.Found.{slot_for, found_in, slot_at, CanRead, CanInsert, payload, insert_end, insert_at, erase_at};
+ghost use Rattle.slots.specs.Found.{slot_for, found_in, slot_at, CanRead, CanInsert, payload, payload_at, insert_end, insert_at, erase_at};
 
 use crate::AreaKind;
 use crate::slot::{self, Slot};
 use buffers::{compare, parts};
 
-fn slot_count(kind: AreaKind, area: &[u8]) -> usize
+pub fn slot_count(kind: AreaKind, area: &[u8]) -> usize
     ensures { result ≡ slot_count (format_of kind) area.now }
 {
     area.len() / kind.slot_size()
@@ -163,7 +163,7 @@ impl<'a> Area<'a> {
         requires { (i < slot_count (format_of self.now.kind) self.now.bytes.now) × (slot_used (format_of self.now.kind) (slot_at (format_of self.now.kind) self.now.bytes.now i) ≡ true) }
         ensures { result.now ≡ slot_name (format_of self.now.kind) (slot_at (format_of self.now.kind) self.now.bytes.now i) }
     {
-        self.slot(i).name()
+        name_at(self.kind, self.bytes, i)
     }
 
     // Whether a slot of the card is used by a name with the prefix.
@@ -245,4 +245,26 @@ pub fn erase_at(kind: AreaKind, area: &mut [u8], found: Found)
     let start = found.at * w;
     let end = Area { kind, bytes: area }.first_free() * w;
     take_first(kind, &mut area[start..end]);
+}
+
+// What is held for a name that is known to be held, in any area of right length; nothing, where it is not held. `Area::payload` tells the two apart.
+pub fn payload_at<'a>(kind: AreaKind, area: &'a [u8], found: Found) -> &'a [u8]
+    requires { (sized (format_of kind) area.now ≡ true) × (CanRead (format_of kind) area.now found) }
+    ensures { result.now ≡ payload_at (format_of kind) area.now found }
+{
+    if found.held {
+        let bytes = slot_at(kind, area, found.at);
+        Slot { kind, bytes }.payload()
+    } else {
+        &area[0..0]
+    }
+}
+
+// The name of a slot in use, whatever the rest of the area is.
+pub fn name_at<'a>(kind: AreaKind, area: &'a [u8], i: usize) -> &'a [u8]
+    requires { (sized (format_of kind) area.now ≡ true) × (i < slot_count (format_of kind) area.now) × (slot_used (format_of kind) (slot_at (format_of kind) area.now i) ≡ true) }
+    ensures { result.now ≡ slot_name (format_of kind) (slot_at (format_of kind) area.now i) }
+{
+    let bytes = slot_at(kind, area, i);
+    Slot { kind, bytes }.name()
 }

@@ -1,0 +1,13 @@
+-- `slots::areas::name_at`: a used slot is well shaped.
+use mathlib.Core.Path.{ap, ◌∙◌}
+use Rattle.spec.specs.Area.{slot_used}
+use Rattle.slots.specs.Kind.{format_of}
+use Rattle.slots.proofs.AreaLaws.{slot-sized}
+use Rattle.slots.proofs.SlotLaws.{used-valid}
+use Rattle.slots.proofs.areas.name_at.Goals as goal
+
+pub invariant_of-name : goal.invariant_of-name
+invariant_of-name c =
+    let F = format_of c.args.kind in
+    let x = c.slot_at-bytes in
+    record { shaped = (slot-sized F c.args.area.now c.requires.0 c.args.i c.requires.1 x.result.now x.ensures, used-valid F x.result.now (ap (slot_used F) x.ensures ∙ c.requires.2)) }
