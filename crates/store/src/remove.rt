@@ -18,6 +18,13 @@ use records::record::Record;
 use slots::areas::Found;
 use slots::{AreaKind, areas, names};
 
+// 1 to 3: what a remove asks before it looks the name up.
+pub fn early_status(kv: &[u8], rbp: &[u8], name: &[u8]) -> Result<(), Refusal>
+    ensures { status_of result ≡ first_of (remove_early kv.now rbp.now name.now) }
+{
+    guard::early_status(kv, rbp, true, names::valid_name(name))
+}
+
 // 6, 8, 7; else the record's flags.
 #[tactic(auto, unfolding(spec::specs::Status::refuse_if, spec::specs::Decisions::remove_held))]
 pub fn held_status(stored: Option<&[u8]>) -> Result<u32, Refusal>
@@ -53,7 +60,7 @@ pub fn judge(kv: &[u8], rbp: &[u8], name: &[u8]) -> Judged<u32>
     ensures judged { judgement result ≡ judged kv.now rbp.now name.now (remove_early kv.now rbp.now name.now) (remove_held (lookup kv_format kv.now name.now)) }
     ensures flags { IfOk result.verdict (λ f. f ≡ flags_of (record_of (lookup kv_format kv.now name.now))) }
 {
-    if let Err(refusal) = guard::early_status(kv, rbp, true, names::valid_name(name)) {
+    if let Err(refusal) = early_status(kv, rbp, name) {
         return judge::refused(refusal);
     }
     let looked = judge::look_up(kv, rbp, name);

@@ -101,10 +101,10 @@ pub fn space_status(
 ) -> Result<(), Refusal>
     ensures { status_of result ≡ first_of (space_tests require_replay_protection flags (binding held.entry) (record { kv = kv_space; rbp = rbp_space })) }
 {
-    if !held.stored.is_some() && !kv_space {
+    if held.stored.is_none() && !kv_space {
         return Err(Refusal::NoSpace);
     }
-    if flag::require_replay_protection(flags) && (!held.tag.is_some() && !rbp_space) {
+    if flag::require_replay_protection(flags) && (held.tag.is_none() && !rbp_space) {
         return Err(Refusal::NoSpace);
     }
     Ok(())
