@@ -4,7 +4,7 @@ ghost use Rattle.buffers.specs.Bytes.{le_bytes, le_value, le_at, put_at};
 
 use crate::parts;
 
-// A number that fills the part.
+// A number that fills the part: of any width, where `to_le_bytes` has one.
 fn put_le(value: u32, dst: &mut [u8])
     ensures { dst.new ≡ le_bytes (length dst.old) value }
 {
@@ -15,6 +15,7 @@ fn put_le(value: u32, dst: &mut [u8])
     }
 }
 
+// The number that the part holds, of any width up to four, where `from_le_bytes` has one.
 fn read_le(src: &[u8]) -> u32
     requires { length src.now ≤ 4 }
     ensures { result ≡ le_value src.now }

@@ -44,7 +44,7 @@ pub fn copy_fitting(src: &[u8], dst: &mut [u8]) -> usize
     n
 }
 
-// The bytes of a part, as an array of their number.
+// The bytes of a part, as an array of their number. No TryFrom: that answers with a Result, and does not promise that it refuses none.
 pub fn array<const N: usize>(s: &[u8]) -> [u8; N]
     requires { length s.now ≡ N }
     ensures { result ≡ s.now }

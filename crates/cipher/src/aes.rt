@@ -2,7 +2,7 @@
 ghost use Rattle.std.specs.Prelude.{◌≡◌, ◌+◌, ◌*◌, ◌<◌, ◌≤◌, ◌++◌, length, take, drop};
 ghost use Rattle.cipher.specs.Sbox.{sub_byte};
 ghost use Rattle.cipher.specs.Tables.{mix_word};
-ghost use Rattle.cipher.specs.Aes.{number_word, rot_word, sub_word, mix_column, diagonal, word_at, state_of, block_of};
+ghost use Rattle.cipher.specs.Aes.{number_word, sub_word, mix_column, diagonal, word_at, state_of, block_of};
 ghost use Rattle.cipher.specs.Aes.{sub_bytes, shift_rows, mix_columns, add_round_key, kept_key, encrypt_with};
 ghost use Rattle.cipher.specs.Aes.{word_number, rcon, next_round_key, state_numbers, expand_key, cipher, aes128};
 ghost use Rattle.cipher.specs.Aes.{State, after_rounds};
@@ -51,9 +51,7 @@ impl Columns {
         parts::paste(&mut block, 12, &self.c3.to_be_bytes());
         block
     }
-}
 
-impl Columns {
     // A column for each diagonal, from which ShiftRows makes one.
     fn by_diagonal<F: Fn(u32, u32, u32, u32) -> u32>(self, column: F) -> Columns
         requires { F.IsAlwaysCallable column }

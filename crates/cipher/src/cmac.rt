@@ -12,7 +12,8 @@ use crate::mac_key::MacKey;
 use crate::tables::Tables;
 use buffers::parts;
 
-// The running state: the chaining block with the pending bytes added to it, their count, and the expanded key.
+// The running state: the chaining block with the pending bytes added to it, their count, and the expanded key. Block and count, where a
+// list would do: there is no heap, and a block is fixed memory.
 #[derive(Clone, Copy)]
 pub struct CmacState {
     pub block: [u8; 16],
@@ -57,7 +58,7 @@ fn doubled(s: Columns) -> Columns
     Columns { c0, c1, c2, c3 }
 }
 
-// Bytes added to a block, from a place on.
+// Bytes added to a block, from a place on. By index: tried with `iter_mut`, after which a proof knows nothing of the bytes.
 fn add_bytes(block: [u8; 16], at: usize, data: &[u8]) -> [u8; 16]
     requires { at + length «data».now ≤ 16 }
     ensures { result ≡ xor_from block at «data».now }

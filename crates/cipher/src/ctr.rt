@@ -42,6 +42,7 @@ fn add_block(part: &mut [u8], s: Columns)
     add_word(part, 12, s.c3);
 }
 
+// By index: tried with `iter_mut`, after which a proof knows nothing of the bytes.
 fn add_front(part: &mut [u8], stream: [u8; 16])
     requires { length part.old ≤ 16 }
     ensures { part.new ≡ xor_bytes part.old stream }
@@ -64,7 +65,7 @@ impl Cipher<'_> {
         shared
     }
 
-    // Whole blocks in place, the first one's count given.
+    // Whole blocks in place, the first one's count given. By index: tried with `as_chunks_mut`, after which a proof knows nothing of the bytes.
     fn crypt_whole(self, iv: [u8; 8], count: u64, buf: &mut [u8])
         requires { length buf.old % 16 ≡ 0 }
         ensures { buf.new ≡ ctr_from (encrypt_with self.entry.keys.now) iv count 0 buf.old }

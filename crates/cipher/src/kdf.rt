@@ -1,6 +1,6 @@
 // Key derivation in counter mode over CMAC (SP 800-108, 5.1), one block of output.
 
-ghost use Rattle.std.specs.Prelude.{◌≡◌, ◌++◌, replicate, if◌then◌else◌};
+ghost use Rattle.std.specs.Prelude.{◌≡◌, ◌++◌, if◌then◌else◌};
 ghost use Rattle.cipher.specs.Aes.{expand_key};
 ghost use Rattle.cipher.specs.Kdf.{enc_prefix, auth_prefix, kdf, derived_key};
 ghost use Rattle.cipher.specs.Device.{prepared, bare, IsPrepared};
@@ -72,7 +72,8 @@ pub fn prepare(tables: &Tables, key: [u8; 16]) -> DeviceKey
     DeviceKey { key, keys, zero }
 }
 
-// The device key, prepared where keys are to be derived; there is nothing to lend where none is.
+// The device key, prepared where keys are to be derived; there is nothing to lend where none is. A bare key and no Option: what this ensures may not change
+// (DECISIONS 127).
 pub fn prepare_if(wanted: bool, tables: &Tables, key: [u8; 16]) -> DeviceKey
     ensures { result ≡ (if wanted then prepared key else bare key) }
 {
@@ -98,7 +99,7 @@ fn derive_prepared(tables: &Tables, device: &DeviceKey, prefix: &[u8], name: &[u
     mac.derive(device.key, prefix, name)
 }
 
-// The key that a name's data is encrypted under.
+// The key that a name's data is encrypted under. Two public names, which may not change: each is a line over `derive_prepared`.
 pub fn derive_encryption_key(tables: &Tables, device: &DeviceKey, name: &[u8]) -> [u8; 16]
     requires { IsPrepared device.now }
     ensures { result ≡ derived_key device.now.key enc_prefix name.now }

@@ -3,7 +3,7 @@ ghost use Rattle.std.specs.Prelude.{◌≡◌};
 ghost use Rattle.cipher.specs.Sbox.{sbox};
 ghost use Rattle.cipher.specs.Tables.{mix_table};
 
-// FIPS 197, figure 7. That it obeys the rule of 5.1.1 is what `sbox_table` ensures.
+// FIPS 197, figure 7. That it obeys the rule of 5.1.1 is what `Tables::new` ensures.
 static SBOX: [u8; 256] = [
     0x63, 0x7c, 0x77, 0x7b, 0xf2, 0x6b, 0x6f, 0xc5, 0x30, 0x01, 0x67, 0x2b, 0xfe, 0xd7, 0xab, 0x76,
     0xca, 0x82, 0xc9, 0x7d, 0xfa, 0x59, 0x47, 0xf0, 0xad, 0xd4, 0xa2, 0xaf, 0x9c, 0xa4, 0x72, 0xc0,
@@ -62,13 +62,13 @@ static MIX: [u32; 256] = [
 pub fn sbox_table() -> [u8; 256]
     ensures { result ≡ sbox }
 {
-    SBOX
+    *Tables::new().sub
 }
 
 pub fn mix_table() -> [u32; 256]
     ensures { result ≡ mix_table }
 {
-    MIX
+    *Tables::new().mix
 }
 
 // Both tables, lent as they stand, so that no operation copies one.
