@@ -26,7 +26,7 @@ use store::{get, guard};
 
 // The records of a session in the slots so far: none, one at a place, or more.
 #[derive(Clone, Copy)]
-pub enum Matches {
+enum Matches {
     Zero,
     One(usize),
     More,
@@ -138,7 +138,7 @@ impl<'a> Records<'a> {
     }
 }
 
-// Tables and device key are prepared once for all records.
+// Tables and device key are prepared once for all records. Card, chip and key stand one by one in both calls, as C hands them over: their signatures stay.
 pub fn find_encoded_mix(
     kv: &[u8],
     rbp: &[u8],

@@ -1,4 +1,4 @@
-// 02: "keeping": a mix is stored as a record.
+// 02: "keeping": a mix is stored as a record. No struct of a store's arguments: C hands them over one by one, and the signatures of the calls stay.
 ghost use Rattle.std.specs.Prelude.{◌≡◌, true, []};
 ghost use Rattle.store.specs.Answers.{status_of};
 ghost use Rattle.mix.specs.Calls.{mix_named, store_if_valid, store_mix, store_encoded_mix};

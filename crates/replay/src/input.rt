@@ -6,7 +6,8 @@ use crate::{BUFFER_SIZE, Fault};
 use script_replay::gather;
 use std::io;
 
-// Of the bytes that were read last, those from `from` to `to` are not used yet. Behind an end nothing is read again.
+// Of the bytes that were read last, those from `from` to `to` are not used yet. Behind an end nothing is read again. An array
+// with two places, not a Vec: there is no heap, and memory is fixed.
 #[derive(Drop)]
 pub(crate) struct Input<R> {
     reader: R,

@@ -4,7 +4,7 @@ ghost use Rattle.std.specs.Prelude.{◌≤◌};
 use script_replay::gather;
 use script_replay::gather::HELD_SIZE;
 
-// The first `len` bytes are held.
+// The first `len` bytes are held. An array with a length, not a Vec: there is no heap, and memory is fixed.
 #[derive(Drop)]
 pub(crate) struct Line {
     pub(crate) bytes: [u8; HELD_SIZE],

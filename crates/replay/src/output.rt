@@ -7,7 +7,7 @@ use buffers::parts;
 use script_replay::answer::ANSWER_SIZE;
 use std::io;
 
-// The first `used` bytes of the answers are to be written.
+// The first `used` bytes of the answers are to be written. An array with a length, not a Vec: there is no heap, and memory is fixed.
 #[derive(Drop)]
 pub(crate) struct Output<W> {
     writer: W,

@@ -78,6 +78,7 @@ impl<R: io::Read, W: io::Write> Player<R, W> {
         let mut kv = [0u8; areas::MAX_KV];
         let mut rbp = [0u8; areas::MAX_RBP];
         let sizes = areas::area_sizes(header.slots);
+        // As in `next_line`: nothing says that a script ends.
         for _ in 0..u64::MAX {
             if !self.next_line()? {
                 break;
