@@ -31,7 +31,8 @@ impl Keys<'_> {
     }
 }
 
-// The bits in which a record's CMAC differs from the copy that was kept elsewhere.
+// The bits in which a record's CMAC differs from the copy that was kept elsewhere. The copy is a slice, of which this clause of `copy_difference` says sixteen
+// bytes: an array would ask more of callers.
 pub fn copy_difference(copy: &[u8], r: Record<'_>) -> u8
     requires { length copy.now ≡ 16 }
     ensures { result ≡ diff_accumulate copy.now (tag_of r.entry.bytes.now) }

@@ -1,19 +1,15 @@
 -- One turn of a loop over a list: what the element at the index decides, from there on.
 use mathlib.Core.Path.{◌≡◌, ap, ◌∙◌}
-use mathlib.Core.Bool.{Bool, true, false, cond, ◌&&◌}
+use mathlib.Core.Bool.{Bool, true, false, cond}
 use mathlib.Core.List.{List}
 use Prim.Native.Nat.{ℕ, suc, ◌+◌, ◌≤◌, ◌<◌}
 use native.Mathlib.Numerals.{add-one}
 use native.Mathlib.Omega.{arith}
 use lib.ListN.{length, get_or, drop, drop_of_length-le}
 use lib.Seq.{drop-cons}
-use Rattle.buffers.specs.Bytes.{every}
 use Rattle.spec.specs.Slots.{first_index}
 
 module _ {A : Type 0} (d : A) (t : A → Bool) (l : List A) (i : ℕ) (h : i < length l) where
-  pub every-turn : every t (drop i l) ≡ (t (get_or l i d) && every t (drop (i + 1) l))
-  every-turn = rw (add-one i, drop-cons l i d h)
-
   first-turn : first_index t (drop i l) ≡ cond (t (get_or l i d)) 0 (suc (first_index t (drop (i + 1) l)))
   first-turn = rw (add-one i, drop-cons l i d h)
 

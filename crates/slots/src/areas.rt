@@ -44,6 +44,7 @@ pub fn area_intact(kind: AreaKind, area: &[u8]) -> bool
     requires { sized (format_of kind) area.now ≡ true }
     ensures { result ≡ intact (format_of kind) area.now }
 {
+    // By number: from slot i on, all that is left of the area is tested as one run of zeros, which no iterator over slots hands out.
     let w = kind.slot_size();
     let Some(mut before) = Slot::checked(kind, slot_at(kind, area, 0)) else {
         return false;
@@ -200,7 +201,8 @@ impl<'a> Area<'a> {
     }
 }
 
-// A new slot in front of those of a part, of which the last one goes.
+// A new slot in front of those of a part, of which the last one goes. Here, in `insert_at` and in `make_slot` the lengths are asked for one by one: callers
+// have the name and the payload from different places, so that a struct of both would be built for one call, and is no plainer.
 fn put_first(kind: AreaKind, part: &mut [u8], name: &[u8], payload: &[u8])
     requires kind_in_bounds { (format_of kind).slot_size ≤ length part.old }
     requires name_len_bound { (length name.now ≤ 64) × (length payload.now ≤ payload_size (format_of kind)) }

@@ -9,15 +9,12 @@ fn valid_name_byte(b: u8) -> bool
     0x20 <= b && b != 0x7f
 }
 
-// An and over all bytes with one test after it: such a loop is vectorised, and one that stops at the first bad byte is not.
+// An and over all bytes with one test after it: such a loop is vectorised, and `all`, which stops at the first bad byte, is not.
 fn valid_name_bytes(s: &[u8]) -> bool
     ensures { result ≡ every valid_name_byte s.now }
 {
-    let mut valid = true;
-    for b in s {
-        valid &= valid_name_byte(*b);
-    }
-    valid
+    s.iter()
+        .fold(true, |valid, byte| valid & valid_name_byte(*byte))
 }
 
 // 01: "good name"
