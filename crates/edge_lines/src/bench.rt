@@ -19,7 +19,8 @@ const REGISTERS: usize = 216450;
 
 const MEMORY: usize = 228738;
 
-// The registers of a line's arguments come first; the name of a call that is tried stands in the first of them. Numbers and no enum: an argument's place is one too.
+// The registers of a line's arguments come first; the name of a call that is tried stands in the first of them. Numbers and no enum: an argument's place
+// is one too.
 pub const NAME: usize = 0;
 
 pub const KEY: usize = 6;
@@ -40,6 +41,18 @@ pub const STAGING: usize = 11;
 pub struct Kept {
     pub card: usize,
     pub chip: usize,
+}
+
+impl Kept {
+    // How many bytes the card's or the chip's part of a copy has, and where it begins.
+    fn part(self, place: Place) -> (usize, usize)
+        ensures { result.1 ≤ 37960 }
+    {
+        match place {
+            Place::Card | Place::Handle => (self.card, 0),
+            Place::Chip | Place::Staging => (self.chip, CHIP),
+        }
+    }
 }
 
 // One buffer has all bytes: the card, the chip, four copies of both, and twelve registers. A card and a chip have room for 65 slots each, one more than a
@@ -128,13 +141,9 @@ impl Bench {
         bytes
     }
 
-    // Of card and chip, here and below: a line each, and nothing is said twice but the name.
-    pub fn card(&self) -> &[u8] {
-        span(&self.bytes, 0, self.lens.card)
-    }
-
-    pub fn chip(&self) -> &[u8] {
-        span(&self.bytes, CHIP, self.lens.chip)
+    // The bytes of a place.
+    pub fn all(&self, place: Place) -> &[u8] {
+        self.at(place, 0, self.len(place))
     }
 
     pub fn key(&self) -> &[u8] {
@@ -143,10 +152,6 @@ impl Bench {
 
     pub fn iv(&self) -> &[u8] {
         self.reg(IV, self.iv)
-    }
-
-    pub fn staging(&self) -> &[u8] {
-        self.reg(STAGING, self.lens.staging)
     }
 
     // All bytes of card and chip.
@@ -197,15 +202,11 @@ impl Bench {
         self.kept.get(copy).copied().flatten()
     }
 
-    // Whether card and chip have these bytes of a copy.
-    pub fn same_card(&self, copy: usize, kept: Kept) -> bool {
-        let from = copy_at(copy);
-        self.lens.card == kept.card && self.card() == span(&self.bytes, from, kept.card)
-    }
-
-    pub fn same_chip(&self, copy: usize, kept: Kept) -> bool {
-        let from = copy_at(copy) + CHIP;
-        self.lens.chip == kept.chip && self.chip() == span(&self.bytes, from, kept.chip)
+    // Whether the card or the chip has the bytes of its part of a copy.
+    pub fn same(&self, place: Place, copy: usize, kept: Kept) -> bool {
+        let (n, base) = kept.part(place);
+        let copied = span(&self.bytes, copy_at(copy) + base, n);
+        self.len(place) == n && self.all(place) == copied
     }
 
     // The byte at an index of all, or 0.
@@ -224,16 +225,20 @@ impl Bench {
         card < 66 && chip < 66
     }
 
-    // The bytes of a card or a chip are read where they stand.
-    fn read_card(&mut self, text: &[u8]) -> bool {
-        let read = read_bytes(text, &mut self.bytes[..CHIP]);
-        self.lens.card = some(read);
-        read.is_ok()
+    // All the room of a place.
+    fn room_mut(&mut self, place: Place) -> &mut [u8] {
+        match place {
+            Place::Card => &mut self.bytes[..CHIP],
+            Place::Chip => &mut self.bytes[CHIP..MEDIA],
+            Place::Handle => self.reg_mut(HANDLE),
+            Place::Staging => self.reg_mut(STAGING),
+        }
     }
 
-    fn read_chip(&mut self, text: &[u8]) -> bool {
-        let read = read_bytes(text, &mut self.bytes[CHIP..MEDIA]);
-        self.lens.chip = some(read);
+    // The bytes of a place are read where they stand.
+    fn read(&mut self, place: Place, text: &[u8]) -> bool {
+        let read = read_bytes(text, self.room_mut(place));
+        self.set_len(place, some(read));
         read.is_ok()
     }
 
@@ -274,10 +279,7 @@ impl Bench {
         let Some(kept) = self.kept(copy) else {
             return false;
         };
-        let (n, base) = match place {
-            Place::Card | Place::Handle => (kept.card, 0),
-            Place::Chip | Place::Staging => (kept.chip, CHIP),
-        };
+        let (n, base) = kept.part(place);
         if MEDIA <= n {
             return false;
         }
@@ -290,8 +292,8 @@ impl Bench {
         let n = args.values[0];
         match word {
             Setup::Slots => return self.slots(n, args.values[1]),
-            Setup::Card => return self.read_card(field(line, 1)),
-            Setup::Chip => return self.read_chip(field(line, 1)),
+            Setup::Card => return self.read(Place::Card, field(line, 1)),
+            Setup::Chip => return self.read(Place::Chip, field(line, 1)),
             Setup::Key => self.key = n,
             Setup::Iv => self.iv = n,
             Setup::Attributes => return n == 20,

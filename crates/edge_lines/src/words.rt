@@ -201,8 +201,7 @@ const WORDS: [(&[u8], Word, &[Kind]); 34] = [
 
 impl Row {
     pub fn of(name: &[u8]) -> Option<Row> {
-        let words = WORDS;
-        let (_, word, kinds) = words.iter().find(|row| row.0 == name).copied()?;
+        let (_, word, kinds) = WORDS.iter().find(|row| row.0 == name).copied()?;
         Some(Row { word, kinds })
     }
 

@@ -6,6 +6,7 @@ use edge_lines::areas::{front, put};
 use edge_lines::args::Args;
 use edge_lines::bench::{Bench, LENT};
 use edge_lines::floats;
+use edge_lines::place::Place;
 use store::status::Refusal;
 
 // What a call answered: its status, and the numbers beside it, zeros where it was refused.
@@ -30,8 +31,8 @@ pub fn store(args: Args, bench: &Bench, kv: &mut [u8], rbp: &mut [u8]) -> Result
 
 pub fn find(args: Args, bench: &Bench, mix_buf: &mut [u8]) -> Result<usize, Refusal> {
     mix::find::find_encoded_mix(
-        bench.card(),
-        bench.chip(),
+        bench.all(Place::Card),
+        bench.all(Place::Chip),
         bench.key(),
         args.values[0] as u64,
         mix_buf,

@@ -55,7 +55,13 @@ fn handle(bench: &Bench) -> IncSetHandle {
 }
 
 fn finalize(bench: &Bench, kv: &mut [u8], rbp: &mut [u8]) -> Result<(), Refusal> {
-    store::incremental::set_finalize(kv, rbp, bench.key(), handle(bench), bench.staging())
+    store::incremental::set_finalize(
+        kv,
+        rbp,
+        bench.key(),
+        handle(bench),
+        bench.all(Place::Staging),
+    )
 }
 
 // The calls that may write card and chip answer with a status alone.
@@ -80,8 +86,8 @@ fn write<F: FnOnce(&Bench, &mut [u8], &mut [u8]) -> Result<(), Refusal>>(
 
 fn get(args: Args, bench: &Bench, output: &mut [u8]) -> Result<usize, Refusal> {
     store::get::get(
-        bench.card(),
-        bench.chip(),
+        bench.all(Place::Card),
+        bench.all(Place::Chip),
         bench.key(),
         bench.arg(args, 0),
         args.values[1],
@@ -90,14 +96,19 @@ fn get(args: Args, bench: &Bench, output: &mut [u8]) -> Result<usize, Refusal> {
 }
 
 fn info(args: Args, bench: &Bench) -> Answer {
-    let info = store::get::get_info(bench.card(), bench.chip(), bench.key(), bench.arg(args, 0));
+    let info = store::get::get_info(
+        bench.all(Place::Card),
+        bench.all(Place::Chip),
+        bench.key(),
+        bench.arg(args, 0),
+    );
     answered(info.map(|info| [u64::from(info.data_size), u64::from(info.flags)]))
 }
 
 fn next(args: Args, bench: &Bench, name_buf: &mut [u8]) -> Answer {
     let next = store::iterate::iterator_next(
-        bench.card(),
-        bench.chip(),
+        bench.all(Place::Card),
+        bench.all(Place::Chip),
         bench.arg(args, 0),
         args.values[1],
         name_buf,
@@ -107,8 +118,8 @@ fn next(args: Args, bench: &Bench, name_buf: &mut [u8]) -> Answer {
 
 fn load(args: Args, bench: &Bench, key_buf: &mut [u8]) -> Result<usize, Refusal> {
     keys::persist::load_persistent_key(
-        bench.card(),
-        bench.chip(),
+        bench.all(Place::Card),
+        bench.all(Place::Chip),
         bench.key(),
         args.narrow(0),
         key_buf,
@@ -149,11 +160,7 @@ fn start(args: Args, bench: &mut Bench) -> Answer {
         bench.iv(),
         args.values[2],
     );
-    let handle = match started {
-        Ok(handle) => handle,
-        Err(_) => zero_handle(),
-    };
-    keep_handle(handle, bench);
+    keep_handle(started.unwrap_or(zero_handle()), bench);
     answered(started.map(|_| [])).and_bytes(&[88])
 }
 
@@ -161,7 +168,7 @@ fn start(args: Args, bench: &mut Bench) -> Answer {
 fn add(args: Args, bench: &mut Bench) -> Answer {
     let n = bench.len(Place::Staging);
     let mut staging = [0u8; 512];
-    put(&mut staging, 0, bench.staging());
+    put(&mut staging, 0, bench.all(Place::Staging));
     let mut handle = handle(bench);
     let added = store::incremental::set_add_data(
         &mut handle,

@@ -4,11 +4,13 @@ use edge_lines::answer::{Answer, Outcome};
 use edge_lines::areas::put;
 use edge_lines::args::Args;
 use edge_lines::bench::{Bench, LENT, MEDIA, NAME, place_at};
+use edge_lines::place::Place;
 use edge_lines::values::{read_bytes, some};
 use edge_lines::words::{Call, Row, Word};
 use text::parts::field;
 
-// A status that no call has: the trials answered differently, or one was refused and changed card or chip.
+// A status that no call has: the trials answered differently, or one was refused and changed card or chip. A number and no enum, since docs/EDGES.md has it
+// printed as the answer's number.
 const MIXED: u64 = 4294967295;
 
 // As many bytes as are expected, from an index on.
@@ -33,8 +35,8 @@ pub fn same(args: Args, bench: &Bench) -> Option<Answer> {
     if MEDIA <= kept.card {
         return None;
     }
-    let card = bench.same_card(copy, kept);
-    let chip = bench.same_chip(copy, kept);
+    let card = bench.same(Place::Card, copy, kept);
+    let chip = bench.same(Place::Chip, copy, kept);
     if card && chip {
         Some(Answer::of(&[]))
     } else {
