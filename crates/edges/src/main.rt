@@ -15,13 +15,9 @@ use trials::tally::Tally;
 // How many arguments the program was started with, its own name among them.
 fn argument_count(rt: &HostRuntime) -> usize {
     let mut name = [0u8; 256];
-    for i in 0..usize::MAX {
-        match rt.arg(i, &mut name) {
-            Err(FillError::NotPresent) => return i,
-            _ => {}
-        }
-    }
-    usize::MAX
+    (0..usize::MAX)
+        .find(|i| matches!(rt.arg(*i, &mut name), Err(FillError::NotPresent)))
+        .unwrap_or(usize::MAX)
 }
 
 fn run_argument(rt: &HostRuntime, i: usize) -> Tally {
