@@ -9,7 +9,7 @@ use text::parts::{field, line};
 // The most bytes that a field may hold: as many as the longest published message has.
 pub const LONGEST: usize = 160;
 
-// The bytes of a field, and zeros after them.
+// The bytes of a field, and zeros after them. An array with a size, since there is no heap for a Vec.
 #[derive(Clone, Copy)]
 pub struct Bytes {
     all: [u8; LONGEST],
