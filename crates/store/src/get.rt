@@ -102,7 +102,8 @@ pub fn held_status(
     offset_status(stored, offset)
 }
 
-// The device key, prepared where the record's flags ask for keys.
+// The device key, prepared where the record's flags ask for keys. `accepted_record` and `get` each write out the tables, this key and the `Keys` that lend both:
+// a function that made all three could not hand out what it lends, and one that took the rest as a closure is no plainer.
 fn key_for(tables: &Tables, device_key: &[u8], stored: Record<'_>) -> DeviceKey
     requires { length device_key.now ≡ 16 }
     ensures key_value { result.key ≡ device_key.now }

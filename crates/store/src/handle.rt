@@ -1,4 +1,5 @@
-// A handle's 88 bytes, for callers that keep it as bytes. Functions and not From: neither type is this crate's.
+// A handle's 88 bytes, for callers that keep it as bytes. Functions and not From: an impl may stand only in `spec`, whose
+// type the handle is, and that crate has no function (README).
 ghost use Rattle.std.specs.Prelude.{◌≡◌};
 ghost use Rattle.spec.specs.Incremental.{handle_bytes, handle_of};
 

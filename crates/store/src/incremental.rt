@@ -29,7 +29,7 @@ fn start_status(name: &[u8], iv: &[u8], final_data_size: usize) -> Result<(), Re
     Ok(())
 }
 
-// No Default: the type is not this crate's.
+// No Default: an impl may stand only in `spec`, whose type it is, and that crate has no function (README).
 pub fn zero_handle() -> IncSetHandle
     ensures { result ≡ zero_handle }
 {

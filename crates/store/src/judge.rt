@@ -22,7 +22,8 @@ pub struct Held<'a> {
     pub tag: Option<[u8; 16]>,
 }
 
-// The same, and where it stands: the name's slots, or those that it would take.
+// The same, and where it stands: the name's slots, or those that it would take. No struct of the two places: `write_record` and `erase_record` take them one by
+// one (DECISIONS 53), each for its own area, and their clauses name each, as those of `Judged` do.
 #[derive(Clone, Copy)]
 pub(crate) struct Looked<'a> {
     pub held: Held<'a>,
@@ -35,10 +36,7 @@ fn owned_tag(tag: Option<&[u8]>) -> Option<[u8; 16]>
     requires { ForSome tag (λ t. length t.now ≡ 16) }
     ensures { result ≡ option_copied tag.entry }
 {
-    match tag {
-        Some(tag) => Some(parts::array::<16>(tag)),
-        None => None,
-    }
+    tag.map(parts::array::<16>)
 }
 
 // No struct of both areas: the calls take them one by one, as C hands them over, and only this and a set's `verdict` read both.

@@ -25,6 +25,7 @@ pub enum Refusal {
 }
 
 impl Refusal {
+    // A function and not a From: the clauses cite `code`, and a second name for it would be no plainer.
     pub fn code(self) -> u32
         ensures { result ≡ code self }
     {
@@ -50,7 +51,7 @@ impl Refusal {
     }
 }
 
-// The number of an answer, for callers that have no enum.
+// The number of an answer, for callers that have no enum. A function and not a From: neither Result nor u32 is this crate's.
 pub fn number<T: Copy>(answer: Result<T, Refusal>) -> u32
     ensures { result ≡ status_of answer }
 {
