@@ -20,6 +20,7 @@ fn sends_from(tags: &[u8], levels: &[f32], pans: &[f32]) -> [AuxSend; 16]
     ensures { result ≡ sends_from tags.now levels.now pans.now ++ replicate (16 - length tags.now) Muted }
 {
     let mut sends = [AuxSend::Muted; monitor::MAX_SENDS];
+    // By an index: a `zip` of the three with `enumerate` was tried; std has no lemma on what an `enumerate` of it yields, and the proof didn't close.
     for (i, tag) in tags.iter().enumerate() {
         sends[i] = send::send_from(*tag, levels[i], pans[i]);
     }
@@ -75,6 +76,7 @@ fn spread(mix: MonitorMix, tags: &mut [u8], levels: &mut [f32], pans: &mut [f32]
     requires { (mix.count ≤ 16) × (16 ≤ length tags.old) × (16 ≤ length levels.old) × (16 ≤ length pans.old) }
     ensures { record { tags = tags.new; levels = levels.new; pans = pans.new } ≡ spread_over mix (record { tags = tags.old; levels = levels.old; pans = pans.old }) }
 {
+    // By an index: a `zip` with `iter_mut` was tried; in its loop a proof knows nothing of what was written, and it didn't close.
     for (i, send) in mix.sends[..mix.count as usize].iter().enumerate() {
         let (tag, level, pan) = send_parts(*send);
         tags[i] = tag;

@@ -5,6 +5,7 @@ ghost use Rattle.script_replay.specs.Script.{header};
 use crate::step::LINE_LIMIT;
 use text::{decimal, hex, parts};
 
+// At most 64 slots stands in the clauses, not in a ghost field: `header` and the theorem `HeaderExact` build it as a record of these two fields.
 #[derive(Clone, Copy)]
 pub struct ScriptHeader {
     pub key: [u8; 16],
