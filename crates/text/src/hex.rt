@@ -20,6 +20,8 @@ fn digit(d: u8) -> u8
     if d < 10 { b'0' + d } else { b'a' - 10 + d }
 }
 
+// By index, as `put_digits` is. Tried here: `zip` with `chunks_exact(2)`; the proof didn't close by the check alone, at any goal from `loop-byte-init` on, and its
+// invariant would have to say what both iterators still hold.
 fn put_pairs(text: &[u8], out: &mut [u8])
     requires { (length text.now ≡ 2 * length out.old) × (all_hex_digits text.now ≡ true) }
     ensures { out.new ≡ hex_bytes text.now }
