@@ -138,7 +138,7 @@ impl<'a> Records<'a> {
     }
 }
 
-// Tables and device key are prepared once for all records. Card, chip and key stand one by one in both calls, as C hands them over: their signatures stay.
+// Tables and device key are prepared once for all records. Card, chip and key stand one by one, as C hands them over here, and as they do in the other call: both signatures stay.
 pub fn find_encoded_mix(
     kv: &[u8],
     rbp: &[u8],
