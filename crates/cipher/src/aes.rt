@@ -6,7 +6,7 @@ ghost use Rattle.cipher.specs.Aes.{number_word, sub_word, mix_column, diagonal, 
 ghost use Rattle.cipher.specs.Aes.{sub_bytes, shift_rows, mix_columns, add_round_key, kept_key, encrypt_with};
 ghost use Rattle.cipher.specs.Aes.{word_number, rcon, next_round_key, state_numbers, expand_key, cipher, aes128};
 ghost use Rattle.cipher.specs.Aes.{State, after_rounds};
-ghost use Rattle.cipher.specs.Columns.{columns_state, words_state};
+ghost use Rattle.cipher.specs.Columns.{columns_state};
 ghost use Rattle.cipher.specs.FirstRound.{last_column_part, shared_round};
 
 use crate::tables::Tables;
@@ -22,6 +22,13 @@ pub(crate) struct Columns {
 }
 
 impl Columns {
+    pub(crate) const ZERO: Columns = Columns {
+        c0: 0,
+        c1: 0,
+        c2: 0,
+        c3: 0,
+    };
+
     // Sixteen bytes of a buffer as a state.
     pub(crate) fn load_at(bytes: &[u8], i: usize) -> Columns
         requires { i + 16 ≤ length bytes.now }
@@ -249,24 +256,23 @@ impl<'a> Cipher<'a> {
         }
     }
 
-    // The rounds after the first `from`, the last one too. Columns are passed as numbers, which stay in registers: as a struct they make CMAC slower by a twentieth.
-    fn rounds_from(self, from: usize, c0: u32, c1: u32, c2: u32, c3: u32) -> Columns
+    // The rounds after the first `from`, the last one too.
+    fn rounds_from(self, from: usize, s: Columns) -> Columns
         requires { from ≤ 9 }
-        ensures { (s : State) → words_state c0 c1 c2 c3 ≡ after_rounds (kept_key self.entry.keys.now) from s → columns_state result ≡ cipher (kept_key self.entry.keys.now) s }
+        ensures { (x : State) → columns_state s ≡ after_rounds (kept_key self.entry.keys.now) from x → columns_state result ≡ cipher (kept_key self.entry.keys.now) x }
     {
-        let mut s = Columns { c0, c1, c2, c3 };
+        let mut state = s;
         for r in from..9 {
-            s = self.tables.mix_columns(s) ^ self.round_key(r + 1);
+            state = self.tables.mix_columns(state) ^ self.round_key(r + 1);
         }
-        self.tables.shift_rows(s) ^ self.round_key(10)
+        self.tables.shift_rows(state) ^ self.round_key(10)
     }
 
     // A state encrypted.
-    pub(crate) fn encrypt_words(self, c0: u32, c1: u32, c2: u32, c3: u32) -> Columns
-        ensures { columns_state result ≡ cipher (kept_key self.entry.keys.now) (words_state c0 c1 c2 c3) }
+    pub(crate) fn encrypt(self, s: Columns) -> Columns
+        ensures { columns_state result ≡ cipher (kept_key self.entry.keys.now) (columns_state s) }
     {
-        let s = Columns { c0, c1, c2, c3 } ^ self.round_key(0);
-        self.rounds_from(0, s.c0, s.c1, s.c2, s.c3)
+        self.rounds_from(0, s ^ self.round_key(0))
     }
 
     // The first round of a state, without its last column's part.
@@ -283,14 +289,13 @@ impl<'a> Cipher<'a> {
         ensures { (s : State) → s.c3 ≡ number_word c3 → columns_state shared ≡ shared_round (kept_key self.entry.keys.now) s → columns_state result ≡ cipher (kept_key self.entry.keys.now) s }
     {
         let x = shared ^ self.tables.last_column_part(c3 ^ self.keys[3]);
-        self.rounds_from(1, x.c0, x.c1, x.c2, x.c3)
+        self.rounds_from(1, x)
     }
 
     pub(crate) fn encrypt_block(self, block: &[u8; 16]) -> [u8; 16]
         ensures { result ≡ encrypt_with self.entry.keys.now block.now }
     {
-        let s = Columns::load(block);
-        self.encrypt_words(s.c0, s.c1, s.c2, s.c3).store()
+        self.encrypt(Columns::load(block)).store()
     }
 }
 

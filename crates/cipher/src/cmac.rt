@@ -107,8 +107,7 @@ impl Cipher<'_> {
     {
         let mut chained = s;
         for block in data.as_chunks::<16>().0 {
-            let x = chained ^ Columns::load(block);
-            chained = self.encrypt_words(x.c0, x.c1, x.c2, x.c3);
+            chained = self.encrypt(chained ^ Columns::load(block));
         }
         chained
     }
@@ -118,8 +117,7 @@ impl Cipher<'_> {
         requires { 0 < length «data».now }
         ensures { state_with result self.entry.keys.now ≡ fed (record { block = block; pending = 16; keys = self.entry.keys.now }) «data».now }
     {
-        let full = Columns::load(&block);
-        let next = self.encrypt_words(full.c0, full.c1, full.c2, full.c3);
+        let next = self.encrypt(Columns::load(&block));
         let end = before_last(data.len());
         let chained = self.chain_blocks(next, &data[..end]);
         let last = &data[end..];
@@ -154,7 +152,7 @@ impl MacKey<'_> {
     {
         let block = from.block;
         let x = close_block(block, from.count.min(16), self.zero);
-        self.cipher.encrypt_words(x.c0, x.c1, x.c2, x.c3).store()
+        self.cipher.encrypt(x).store()
     }
 
     // The tag of a whole message.
@@ -162,15 +160,9 @@ impl MacKey<'_> {
         ensures { result ≡ cmac_over (encrypt_with self.entry.cipher.keys.now) message.now }
     {
         let end = before_last(message.len());
-        let start = Columns {
-            c0: 0,
-            c1: 0,
-            c2: 0,
-            c3: 0,
-        };
-        let chained = self.cipher.chain_blocks(start, &message[..end]);
+        let chained = self.cipher.chain_blocks(Columns::ZERO, &message[..end]);
         let x = chained ^ last_block(&message[end..], self.zero);
-        self.cipher.encrypt_words(x.c0, x.c1, x.c2, x.c3).store()
+        self.cipher.encrypt(x).store()
     }
 }
 

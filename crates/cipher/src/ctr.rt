@@ -89,8 +89,7 @@ impl Cipher<'_> {
         self.crypt_whole(iv, count, &mut buf[..end]);
         if end < n {
             let x = counter_columns(iv, count.wrapping_add((n / 16) as u64));
-            let s = self.encrypt_words(x.c0, x.c1, x.c2, x.c3);
-            add_front(&mut buf[end..n], s.store());
+            add_front(&mut buf[end..n], self.encrypt(x).store());
         }
     }
 }

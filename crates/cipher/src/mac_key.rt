@@ -17,7 +17,7 @@ impl<'a> MacKey<'a> {
     pub(crate) fn new(cipher: Cipher<'a>) -> Self
         ensures { result.cipher.keys.now ≡ cipher.entry.keys.now }
     {
-        let zero = cipher.encrypt_words(0, 0, 0, 0);
+        let zero = cipher.encrypt(Columns::ZERO);
         MacKey { cipher, zero }
     }
 }

@@ -1,7 +1,7 @@
 -- `cipher::aes::Cipher::crypt_blocks`: the whole blocks, then the front of the next one's key stream.
 use Rattle.std.proofs.Common.{◌+◌, ◌-◌, ◌*◌, ◌/◌, ◌++◌, length, take, drop, refl, ap, ◌∙◌, arith, length-take, rules}
 use Rattle.cipher.specs.Aes.{block_of, kept_key, cipher, encrypt_with}
-use Rattle.cipher.specs.Columns.{columns_state, words_state}
+use Rattle.cipher.specs.Columns.{columns_state}
 use Rattle.cipher.specs.Cmac.{xor_bytes}
 use Rattle.cipher.proofs.Lengths.{block-length}
 use Rattle.cipher.proofs.Stream.{block-step, ctr-done, apart-length, apart-done}
@@ -14,7 +14,7 @@ pub crypt_whole-requires : goal.crypt_whole-requires
 crypt_whole-requires c = simp length-take (omega arith)
 
 pub returns-then-end-n : goal.returns-then-end-n
-unfolding columns_state words_state encrypt_with
+unfolding columns_state encrypt_with
 returns-then-end-n c =
     let a = c.args in
     let ks = a.self.keys.now in
@@ -25,7 +25,7 @@ returns-then-end-n c =
     let size = apart-length _ a.iv a.count l _ i (omega arith) e in
     let buf = c.crypt_whole.new.buf ++ drop i l in
     let counter = c.counter_columns-x.ensures in
-    let stream = ap block_of (c.encrypt_words-s.ensures ∙ ap (cipher (kept_key ks)) counter) in
+    let stream = ap block_of (c.encrypt.ensures ∙ ap (cipher (kept_key ks)) counter) in
     let part = c.add_front.ensures ∙ ap (xor_bytes (take n (drop i buf))) c.store.ensures in
     let step =
     block-step (encrypt_with ks) a.iv a.count buf _ _ _ i n (length l / 16) (omega arith) (omega arith) (omega arith) (block-length _) stream part refl in

@@ -1,7 +1,7 @@
 -- `cipher::mac_key::MacKey::tag_of`: the chain, and the last block closed apart from it.
 use Rattle.std.proofs.Common.{ℕ, List, length, replicate, ap, ◌∙◌, arith, length-drop, length-take}
 use Rattle.cipher.specs.Aes.{number_word, word_bytes, block_of}
-use Rattle.cipher.specs.Columns.{columns_state, words_state}
+use Rattle.cipher.specs.Columns.{columns_state}
 use Rattle.cipher.specs.Cmac.{double}
 use Rattle.cipher.specs.CmacState.{xor_from, closed_block}
 use Rattle.cipher.proofs.States.{block-sum, encrypted}
@@ -15,7 +15,7 @@ pub last_block-requires : goal.last_block-requires
 last_block-requires c = simp (length-take, length-drop) (omega (arith, c.before_last-end.ensures))
 
 pub returns : goal.returns
-unfolding columns_state words_state number_word block_of word_bytes
+unfolding columns_state number_word block_of word_bytes
 returns c =
     let ks = c.args.self.cipher.keys.now in
     let m = c.args.message.now in
@@ -25,5 +25,5 @@ returns c =
     let whole = ap block_of c.bitxor-x.ensures ∙ block-sum _ _ in
     let last =
     c.last_block.ensures ∙ ap (λ (l : List ℕ). closed_block (xor_from zeros 0 l) (length l) (double z) (double (double z))) (to_end e m) in
-    c.store.ensures ∙ encrypted ks _ _ _ c.encrypt_words.ensures whole
+    c.store.ensures ∙ encrypted ks _ _ _ c.encrypt.ensures whole
     ∙ tag-shape ks m _ _ z e c.before_last-end.ensures c.args.self.encrypted c.chain_blocks-chained.ensures last
