@@ -124,15 +124,15 @@ impl Tables {
         x ^ y ^ z ^ w
     }
 
-    // One column of SubBytes and ShiftRows, for the last round. The bytes 1 and 2 of an entry are the substitute itself: each is read where its shift is the shortest.
+    // One column of SubBytes and ShiftRows, for the last round.
     fn unmixed(&self, a: u32, b: u32, c: u32, d: u32) -> u32
         ensures { number_word result ≡ sub_word (diagonal (number_word a) (number_word b) (number_word c) (number_word d)) }
     {
         u32::from_be_bytes([
-            self.mix_entry(a.to_be_bytes()[0]).to_be_bytes()[1],
-            self.mix_entry(b.to_be_bytes()[1]).to_be_bytes()[1],
-            self.mix_entry(c.to_be_bytes()[2]).to_be_bytes()[2],
-            self.mix_entry(d.to_be_bytes()[3]).to_be_bytes()[2],
+            self.substitute(a.to_be_bytes()[0]),
+            self.substitute(b.to_be_bytes()[1]),
+            self.substitute(c.to_be_bytes()[2]),
+            self.substitute(d.to_be_bytes()[3]),
         ])
     }
 
@@ -148,17 +148,11 @@ impl Tables {
         s.by_diagonal(|a, b, c, d| self.unmixed(a, b, c, d))
     }
 
-    // SubWord, for the key expansion. With the S-box in the last round too, where `unmixed` reads the larger table, a block is slower by a twentieth.
+    // SubWord, for the key expansion: a column whose four bytes are of one word.
     fn sub_word(&self, w: u32) -> u32
         ensures { number_word result ≡ sub_word (number_word w) }
     {
-        let [b0, b1, b2, b3] = w.to_be_bytes();
-        u32::from_be_bytes([
-            self.substitute(b0),
-            self.substitute(b1),
-            self.substitute(b2),
-            self.substitute(b3),
-        ])
+        self.unmixed(w, w, w, w)
     }
 
     // What the last column adds to the four columns of a round.
