@@ -13,7 +13,7 @@ pub(crate) struct Line {
 }
 
 impl Line {
-    ghost use Rattle.std.specs.Prelude.{◌≡◌};
+    ghost use Rattle.std.specs.Prelude.{◌≡◌, ◌||◌, ltb};
     ghost use Rattle.replay.specs.Turns.{text};
 
     pub(crate) fn new() -> Line {
@@ -27,5 +27,12 @@ impl Line {
         ensures { result.now ≡ text self.now }
     {
         &self.bytes[..self.len]
+    }
+
+    // Whether there is a line: the last may lack its newline.
+    pub(crate) fn is_there(&self, whole: bool) -> bool
+        ensures { result ≡ (whole || ltb 0 self.now.len) }
+    {
+        whole || 0 < self.len
     }
 }

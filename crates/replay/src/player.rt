@@ -43,21 +43,20 @@ impl<R: io::Read, W: io::Write> Player<R, W> {
         Ok(self.input.take_part(&mut self.line))
     }
 
-    // Whether there is one more: the last may lack its newline, and what came before a read that failed is none. A proved loop has to end, and nothing says
-    // that a line does: so its turns are as many as no run uses up.
+    // Up to a newline or the end of the input: whether there is one more. What came before a read that failed is none. A proved loop has to end, and nothing
+    // says that a line does: so its turns are as many as no run uses up.
     fn next_line(&mut self) -> Result<bool, Fault>
         ensures { IfOk result (λ there. there ≡ false → text self.new.line ≡ []) }
     {
         self.line.len = 0;
+        let mut whole = false;
         for _ in 0..u64::MAX {
-            if self.input.ended {
+            if whole || self.input.ended {
                 break;
             }
-            if self.gather_some()? {
-                return Ok(true);
-            }
+            whole = self.gather_some()?;
         }
-        Ok(0 < self.line.len)
+        Ok(self.line.is_there(whole))
     }
 
     // The line that is held is carried out, and its answer put behind the others.
