@@ -9,7 +9,7 @@ ghost use Rattle.spec.specs.Decisions.{get_held, read_count, read_output};
 ghost use Rattle.spec.specs.Calls.{binding_of, store_get, store_get_info};
 ghost use Rattle.records.specs.Parts.{ReadyFor};
 ghost use Rattle.store.specs.Answers.{status_of, value_or, count_of, no_info};
-ghost use Rattle.store.specs.Parts.{get_early, given, binding, option_of, authentic, fresh, offset_tests, keyless_tests, keyed_tests, judgement, judged, got_of};
+ghost use Rattle.store.specs.Parts.{get_early, given, binding, binding_given, option_of, authentic, fresh, offset_tests, keyless_tests, keyed_tests, judgement, judged, got_of};
 
 use crate::answers::Info;
 use crate::judge::{Held, Judged};
@@ -67,13 +67,13 @@ fn offset_status(stored: Record<'_>, offset: usize) -> Result<(), Refusal>
 }
 
 // 12 where the chip has a name that the card lacks, else 6; then 8: what needs no key. The record, where there is one and it is well formed.
-#[tactic(auto, using(crate::proofs::Given::some_option), unfolding(spec::specs::Status::refuse_if))]
-pub fn keyless_status<'a>(held: Held<'a>) -> Result<Record<'a>, Refusal>
-    ensures tests { status_of result ≡ first_of (keyless_tests (binding held.entry)) }
-    ensures stored { IfOk result (λ r. given held.entry.stored ≡ some r.bytes.now) }
+#[tactic(auto, using(crate::proofs::Given::in_chip_given), unfolding(spec::specs::Status::refuse_if))]
+pub fn keyless_status<'a>(stored: Option<&'a [u8]>, tag_held: bool) -> Result<Record<'a>, Refusal>
+    ensures tests { status_of result ≡ first_of (keyless_tests (binding_given (given stored.entry) tag_held)) }
+    ensures stored { IfOk result (λ r. given stored.entry ≡ some r.bytes.now) }
 {
-    let Some(stored) = held.stored else {
-        if held.tag.is_some() {
+    let Some(stored) = stored else {
+        if tag_held {
             return Err(Refusal::Rollback);
         }
         return Err(Refusal::NotFound);
@@ -124,7 +124,7 @@ fn accepted_record<'a>(
     ensures tests { status_of result ≡ first_of (get_held require_replay_protection device_key.now name.now offset (binding held.entry)) }
     ensures stored { IfOk result (λ r. given held.entry.stored ≡ some r.bytes.now) }
 {
-    let stored = keyless_status(held)?;
+    let stored = keyless_status(held.stored, held.tag.is_some())?;
     let tables = Tables::new();
     let device = key_for(&tables, device_key, stored);
     let keys = Keys {
@@ -200,7 +200,7 @@ pub fn get_prepared(
     ensures { record { status = status_of result; numbers = count_of result ∷ []; output = output.new } ≡ (store_get kv.now rbp.now keys.now.device.now.key keys.now.name.now offset output.old).answer }
 {
     let held = judge::look_up(kv, rbp, keys.name).held;
-    let stored = keyless_status(held)?;
+    let stored = keyless_status(held.stored, held.tag.is_some())?;
     get_record(keys, offset, stored, held.tag, output)
 }
 
@@ -217,7 +217,7 @@ pub fn get(
 {
     early_status(kv, rbp, device_key, name)?;
     let held = judge::look_up(kv, rbp, name).held;
-    let stored = keyless_status(held)?;
+    let stored = keyless_status(held.stored, held.tag.is_some())?;
     let tables = Tables::new();
     let device = key_for(&tables, device_key, stored);
     let keys = Keys {

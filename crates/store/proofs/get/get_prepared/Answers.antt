@@ -1,6 +1,7 @@
 -- `store::get::get_prepared`: a refusal without a key, or what the record gives.
 use mathlib.Core.Path.{refl, ◌∙◌}
 use Rattle.store.specs.Parts.{binding}
+use Rattle.store.proofs.Given.{keyless_given}
 use Rattle.store.proofs.Tests.{refused_number, handed_answer}
 use Rattle.store.proofs.GetCall.{get-sane, keyless_refused, got_record}
 use Rattle.store.proofs.get.get_prepared.Goals as goal
@@ -15,7 +16,7 @@ returns-in_err-stored c =
     let b = binding c.look_up.result.held in
     handed_answer _ _ args.output.now c.from_residual.ensures
     ∙ keyless_refused args.kv.now args.rbp.now keys.device.now.key keys.name.now args.offset c.requires.name_value
-    b c.look_up.ensures.held args.output.now _ c.in_err-stored.ensures.tests (refused_number _)
+    b c.look_up.ensures.held args.output.now _ (c.in_err-stored.ensures.tests ∙ keyless_given c.look_up.result.held _ c.is_some.ensures) (refused_number _)
 
 pub returns : goal.returns
 returns c =
@@ -25,4 +26,4 @@ returns c =
     let seen = c.in_ok-stored in
     c.get_record.ensures
     ∙ got_record args.kv.now args.rbp.now keys.device.now.key keys.name.now args.offset c.requires.name_value
-    b c.look_up.ensures.held seen.ensures.tests seen.stored.bytes.now seen.ensures.stored _ refl args.output.now
+    b c.look_up.ensures.held (seen.ensures.tests ∙ keyless_given c.look_up.result.held _ c.is_some.ensures) seen.stored.bytes.now seen.ensures.stored _ refl args.output.now
