@@ -10,7 +10,6 @@ use edge_mixes::answered;
 use keys::key_file::KeyAttributes;
 use spec::incremental::IncSetHandle;
 use store::handle::{decode_handle, encode_handle};
-use store::incremental::zero_handle;
 use store::status::Refusal;
 
 // As a key file has them.
@@ -160,8 +159,8 @@ fn start(args: Args, bench: &mut Bench) -> Answer {
         bench.iv(),
         args.values[2],
     );
-    keep_handle(started.unwrap_or(zero_handle()), bench);
-    answered(started.map(|_| [])).and_bytes(&[88])
+    keep_handle(started.handle, bench);
+    answered(started.outcome.map(|_| [])).and_bytes(&[88])
 }
 
 // The staging buffer's bytes stand behind the handle's in the answer.
@@ -169,16 +168,15 @@ fn add(args: Args, bench: &mut Bench) -> Answer {
     let n = bench.len(Place::Staging);
     let mut staging = [0u8; 512];
     put(&mut staging, 0, bench.all(Place::Staging));
-    let mut handle = handle(bench);
     let added = store::incremental::set_add_data(
-        &mut handle,
+        handle(bench),
         front_mut(&mut staging, n),
         bench.arg(args, 0),
     );
-    keep_handle(handle, bench);
+    keep_handle(added.handle, bench);
     put(bench.reg_mut(STAGING), 0, &staging);
     put(bench.reg_mut(LENT), 88, &staging);
-    answered(added.map(|_| [])).and_bytes(&[88, n])
+    answered(added.outcome.map(|_| [])).and_bytes(&[88, n])
 }
 
 fn made(call: Call, args: Args, bench: &mut Bench) -> Answer {

@@ -17,8 +17,8 @@ pub extern "C" fn securestore_set_start(
     ensures handle_after { handle.new ≡ Incremental.handle_bytes (Incremental.set_start name.now flags iv.now final_data_size).after }
 {
     let answer = incremental::set_start(name, flags, iv, final_data_size);
-    *handle = handle::encode_handle(answer.unwrap_or(incremental::zero_handle()));
-    number(answer)
+    *handle = handle::encode_handle(answer.handle);
+    number(answer.outcome)
 }
 
 #[unsafe(no_mangle)]
@@ -31,10 +31,9 @@ pub extern "C" fn securestore_set_add_data(
     ensures handle_after { handle.new ≡ Incremental.handle_bytes (Incremental.set_add_data (Incremental.handle_of handle.old) staging.old chunk.now).after.handle }
     ensures staging_after { staging.new ≡ (Incremental.set_add_data (Incremental.handle_of handle.old) staging.old chunk.now).after.staging }
 {
-    let mut held = handle::decode_handle(*handle);
-    let answer = incremental::set_add_data(&mut held, staging, chunk);
-    *handle = handle::encode_handle(held);
-    number(answer)
+    let answer = incremental::set_add_data(handle::decode_handle(*handle), staging, chunk);
+    *handle = handle::encode_handle(answer.handle);
+    number(answer.outcome)
 }
 
 #[unsafe(no_mangle)]

@@ -46,9 +46,9 @@ pub fn area_intact(kind: AreaKind, area: &[u8]) -> bool
 {
     // By number: from slot i on, all that is left of the area is tested as one run of zeros, which no iterator over slots hands out.
     let w = kind.slot_size();
-    let Some(mut before) = Slot::checked(kind, slot_at(kind, area, 0)) else {
+    if !slot::slot_valid(kind, slot_at(kind, area, 0)) {
         return false;
-    };
+    }
     for i in 1..slot_count(kind, area) {
         let at = i * w;
         if area[at] == 0 {
@@ -57,10 +57,13 @@ pub fn area_intact(kind: AreaKind, area: &[u8]) -> bool
         let Some(slot) = Slot::checked(kind, slot_at(kind, area, i)) else {
             return false;
         };
+        let before = Slot {
+            kind,
+            bytes: slot_at(kind, area, i - 1),
+        };
         if !before.may_precede(&slot) {
             return false;
         }
-        before = slot;
     }
     true
 }

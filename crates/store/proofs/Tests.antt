@@ -5,7 +5,8 @@ use mathlib.Core.Bool.{Bool, true, false, not, ◌&&◌}
 use mathlib.Core.List.{List, [], ◌∷◌, ◌++◌, map}
 use Prim.Native.Nat.{ℕ}
 use borrow.Author.Tests.{not-true, not-false}
-use Rattle.std.specs.Prelude.{Result, Ok, Err, IsErr, IsErrAnd}
+use Rattle.std.specs.Prelude.{Result, Ok, Err, IsErr, IsErrAnd, is_ok}
+use Rattle.std.specs.Result.{result_and}
 use Rattle.buffers.specs.Bytes.{every}
 use Rattle.buffers.proofs.Split.{clash}
 use Rattle.spec.specs.Status.{ok, Test, ◌when◌, refuse_if, first_of, Answer}
@@ -53,6 +54,28 @@ handed_status r e h = ap status_of (handed_on r e h)
 pub handed_answer : (r : Result ℕ Refusal) (e : Refusal) (output : List ℕ) → IsErr r × IsErrAnd r (λ x. x ≡ e)
     → ◌≡◌ {A = Answer} (record { status = status_of r; numbers = count_of r ∷ []; output = output }) (record { status = code e; numbers = 0 ∷ []; output = output })
 handed_answer r e output h = ap (λ (x : Result ℕ Refusal). record { status = status_of x; numbers = count_of x ∷ []; output = output }) (handed_on r e h)
+
+-- a verdict that was kept, handed on beside a count
+pub is_done : {A : Type 0} (r : Result A Refusal) → is_ok r ≡ true → status_of r ≡ ok
+is_done (Ok a) e = refl
+is_done (Err x) e = clash false e refl
+
+pub not_done : {A : Type 0} (r : Result A Refusal) → is_ok r ≡ false → status_of r ≢ ok
+not_done (Ok a) e z = clash true refl e
+not_done (Err x) e z = refused_number x z
+
+pub counted_done : {A : Type 0} (r : Result A Refusal) → is_ok r ≡ true → (n : ℕ) (output : List ℕ)
+    → ◌≡◌ {A = Answer} (record { status = status_of (result_and r (Ok n)); numbers = count_of (result_and r (Ok n)) ∷ []; output = output }) (record { status = status_of r; numbers = n ∷ []; output = output })
+counted_done (Ok a) e n output = refl
+counted_done (Err x) e n output = clash false e refl
+
+abbrev none_read : Result ℕ Refusal
+none_read = Ok 0
+
+pub counted_none : {A : Type 0} (r : Result A Refusal) (output : List ℕ)
+    → ◌≡◌ {A = Answer} (record { status = status_of (result_and r none_read); numbers = count_of (result_and r none_read) ∷ []; output = output }) (record { status = status_of r; numbers = 0 ∷ []; output = output })
+counted_none (Ok a) output = refl
+counted_none (Err x) output = refl
 
 -- tests in two groups: the first refuses, or it passes, and the second decides
 module _ (l m : List Test) where

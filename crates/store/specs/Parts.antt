@@ -3,6 +3,7 @@
 --   early, set_early .. iterator_early the tests that a call makes before it looks the name up; a set's own arguments (set_arguments)
 --   finalize_early                    those of a finalize
 --   option_of, given, binding          what a name has, as the code hands it on
+--   given_if, binding_given            the same, where the code asks only whether it is there
 --   authentic, fresh                 the tests for 11, and for 12 of a record with flag 8, pass
 --   downgrade_tests, offset_tests      the test for 12 of a record without it, and the one for 14
 --   stored_tests                      a set's tests of the record that the card holds
@@ -70,6 +71,13 @@ given stored = option_of (option_copied stored)
 
 abbrev pub binding : Held → Binding
 binding held = record { stored = given held.stored; tag = option_of held.tag }
+
+abbrev pub given_if : Bool → List ℕ → Option (List ℕ)
+given_if held bytes = cond held (some bytes) none
+
+-- the tests of these never ask for the entry's bytes
+abbrev pub binding_given : Option (List ℕ) → Bool → Binding
+binding_given stored tag_held = record { stored = stored; tag = given_if tag_held [] }
 
 abbrev pub authentic : List ℕ → Name → List ℕ → Bool
 authentic key name r = not (require_integrity (flags_of r) && not (mac_ok key name r))

@@ -1,15 +1,16 @@
 // Get and info: a record is judged, and its data or its size and flags handed out.
-ghost use Rattle.std.specs.Prelude.{◌≡◌, [], ◌∷◌, ◌≤◌, length, IfOk};
+ghost use Rattle.std.specs.Prelude.{◌≡◌, true, [], ◌∷◌, ◌≤◌, ℕ, List, length, IfOk};
 ghost use Rattle.std.proofs.Math.Option.{some};
 ghost use Rattle.cipher.specs.Device.{IsPrepared};
 ghost use Rattle.spec.specs.Record.{require_replay_protection, data_size_of, flags_of};
-ghost use Rattle.spec.specs.Area.{kv_format, lookup};
+ghost use Rattle.spec.specs.Area.{kv_format, rbp_format, lookup, sized, intact};
 ghost use Rattle.spec.specs.Status.{ok, first_of};
 ghost use Rattle.spec.specs.Decisions.{get_held, read_count, read_output};
 ghost use Rattle.spec.specs.Calls.{binding_of, store_get, store_get_info};
+ghost use Rattle.slots.specs.Found.{found_in};
 ghost use Rattle.records.specs.Parts.{ReadyFor};
 ghost use Rattle.store.specs.Answers.{status_of, value_or, count_of, no_info};
-ghost use Rattle.store.specs.Parts.{get_early, given, binding, option_of, authentic, fresh, offset_tests, keyless_tests, keyed_tests, judgement, judged, got_of};
+ghost use Rattle.store.specs.Parts.{get_early, given, binding, binding_given, option_of, authentic, fresh, offset_tests, keyless_tests, keyed_tests, judgement, judged, got_of};
 
 use crate::answers::Info;
 use crate::judge::{Held, Judged};
@@ -22,7 +23,8 @@ use cipher::tables::Tables;
 use records::keys::Keys;
 use records::record::Record;
 use records::{flags as flag, mac};
-use slots::names;
+use slots::areas::{Area, Found};
+use slots::{AreaKind, names};
 
 // 1 to 3: what a get asks before it looks the name up.
 pub fn early_status(kv: &[u8], rbp: &[u8], device_key: &[u8], name: &[u8]) -> Result<(), Refusal>
@@ -67,13 +69,13 @@ fn offset_status(stored: Record<'_>, offset: usize) -> Result<(), Refusal>
 }
 
 // 12 where the chip has a name that the card lacks, else 6; then 8: what needs no key. The record, where there is one and it is well formed.
-#[tactic(auto, using(crate::proofs::Given::some_option), unfolding(spec::specs::Status::refuse_if))]
-pub fn keyless_status<'a>(held: Held<'a>) -> Result<Record<'a>, Refusal>
-    ensures tests { status_of result ≡ first_of (keyless_tests (binding held.entry)) }
-    ensures stored { IfOk result (λ r. given held.entry.stored ≡ some r.bytes.now) }
+#[tactic(auto, using(crate::proofs::Given::in_chip_given), unfolding(spec::specs::Status::refuse_if))]
+pub fn keyless_status<'a>(stored: Option<&'a [u8]>, tag_held: bool) -> Result<Record<'a>, Refusal>
+    ensures tests { status_of result ≡ first_of (keyless_tests (binding_given (given stored.entry) tag_held)) }
+    ensures stored { IfOk result (λ r. given stored.entry ≡ some r.bytes.now) }
 {
-    let Some(stored) = held.stored else {
-        if held.tag.is_some() {
+    let Some(stored) = stored else {
+        if tag_held {
             return Err(Refusal::Rollback);
         }
         return Err(Refusal::NotFound);
@@ -124,7 +126,7 @@ fn accepted_record<'a>(
     ensures tests { status_of result ≡ first_of (get_held require_replay_protection device_key.now name.now offset (binding held.entry)) }
     ensures stored { IfOk result (λ r. given held.entry.stored ≡ some r.bytes.now) }
 {
-    let stored = keyless_status(held)?;
+    let stored = keyless_status(held.stored, held.tag.is_some())?;
     let tables = Tables::new();
     let device = key_for(&tables, device_key, stored);
     let keys = Keys {
@@ -172,7 +174,7 @@ pub fn read_record(keys: &Keys, stored: Record<'_>, offset: usize, output: &mut 
     parts::copy_fitting(&plain[offset..end], output)
 }
 
-// A get of a record that was found. Plaintext reaches the output only after all tests.
+// A get of a record that was found. Plaintext reaches the output only after all tests; what they say is answered, whatever is read.
 fn get_record(
     keys: &Keys,
     offset: usize,
@@ -183,8 +185,35 @@ fn get_record(
     requires { ReadyFor (flags_of stored.bytes.now) keys.now.device.now }
     ensures { record { status = status_of result; numbers = count_of result ∷ []; output = output.new } ≡ got_of keys.now.device.now.key keys.now.name.now offset stored.entry.bytes.now (option_of tag) output.old }
 {
-    held_status(keys, offset, stored, tag)?;
-    Ok(read_record(keys, stored, offset, output))
+    let verdict = held_status(keys, offset, stored, tag);
+    let accepted = verdict.is_ok();
+    if accepted {
+        let count = read_record(keys, stored, offset, output);
+        return verdict.and(Ok(count));
+    }
+    verdict.and(Ok(0))
+}
+
+// A get of a name that was looked up, by the place of its slot on the card and what the chip has.
+fn get_found(
+    keys: &Keys,
+    kv: &[u8],
+    found: Found,
+    tag: Option<[u8; 16]>,
+    offset: usize,
+    output: &mut [u8],
+) -> Result<usize, Refusal>
+    requires sound { (sized kv_format kv.now ≡ true) × (intact kv_format kv.now ≡ true) }
+    requires found_value { found ≡ found_in kv_format kv.now keys.now.name.now }
+    requires ready { IsPrepared keys.now.device.now }
+    ensures { (rbp : List ℕ) → first_of (get_early kv.now rbp keys.now.device.now.key keys.now.name.now) ≡ ok → option_of tag ≡ lookup rbp_format rbp keys.now.name.now → record { status = status_of result; numbers = count_of result ∷ []; output = output.new } ≡ (store_get kv.now rbp keys.now.device.now.key keys.now.name.now offset output.old).answer }
+{
+    let card = Area {
+        kind: AreaKind::Kv,
+        bytes: kv,
+    };
+    let stored = keyless_status(card.payload(found), tag.is_some())?;
+    get_record(keys, offset, stored, tag, output)
 }
 
 // A get once 1 to 3 have passed, with the tables and the device key lent, for who reads many names of one card.
@@ -199,9 +228,8 @@ pub fn get_prepared(
     requires ready { IsPrepared keys.now.device.now }
     ensures { record { status = status_of result; numbers = count_of result ∷ []; output = output.new } ≡ (store_get kv.now rbp.now keys.now.device.now.key keys.now.name.now offset output.old).answer }
 {
-    let held = judge::look_up(kv, rbp, keys.name).held;
-    let stored = keyless_status(held)?;
-    get_record(keys, offset, stored, held.tag, output)
+    let looked = judge::look_up(kv, rbp, keys.name);
+    get_found(keys, kv, looked.found, looked.held.tag, offset, output)
 }
 
 // Nothing is prepared before the record is there.
@@ -217,7 +245,7 @@ pub fn get(
 {
     early_status(kv, rbp, device_key, name)?;
     let held = judge::look_up(kv, rbp, name).held;
-    let stored = keyless_status(held)?;
+    let stored = keyless_status(held.stored, held.tag.is_some())?;
     let tables = Tables::new();
     let device = key_for(&tables, device_key, stored);
     let keys = Keys {

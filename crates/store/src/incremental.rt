@@ -3,7 +3,7 @@ ghost use Rattle.std.specs.Prelude.{◌≡◌, [], ◌+◌, ◌≤◌};
 ghost use Rattle.spec.specs.Status.{first_of};
 ghost use Rattle.spec.specs.Incremental.{handle_tests, zero_handle, start_tests, new_handle, set_start, add_tests, advanced, set_add_data, store_set_finalize};
 ghost use Rattle.spec.specs.IncrementalExact.{Startable};
-ghost use Rattle.store.specs.Answers.{status_of, value_or};
+ghost use Rattle.store.specs.Answers.{status_of};
 ghost use Rattle.store.specs.Parts.{finalize_early};
 
 use crate::set;
@@ -11,6 +11,13 @@ use crate::status::Refusal;
 use buffers::parts;
 use slots::{AreaKind, areas};
 use spec::incremental::IncSetHandle;
+
+// What a call answers, and the handle for the next one.
+#[derive(Clone, Copy)]
+pub struct SetProgress {
+    pub outcome: Result<(), Refusal>,
+    pub handle: IncSetHandle,
+}
 
 // 1, 3, 5.
 #[tactic(auto, unfolding(spec::specs::Status::refuse_if))]
@@ -60,16 +67,19 @@ fn new_handle(name: &[u8], flags: u32, iv: &[u8], final_data_size: usize) -> Inc
 }
 
 // A refusal gives a handle of zeros, which a later call takes for an empty name.
-pub fn set_start(
-    name: &[u8],
-    flags: u32,
-    iv: &[u8],
-    final_data_size: usize,
-) -> Result<IncSetHandle, Refusal>
-    ensures { record { answer = record { status = status_of result; numbers = []; output = [] }; after = value_or zero_handle result } ≡ set_start name.now flags iv.now final_data_size }
+pub fn set_start(name: &[u8], flags: u32, iv: &[u8], final_data_size: usize) -> SetProgress
+    ensures { record { answer = record { status = status_of result.outcome; numbers = []; output = [] }; after = result.handle } ≡ set_start name.now flags iv.now final_data_size }
 {
-    start_status(name, iv, final_data_size)?;
-    Ok(new_handle(name, flags, iv, final_data_size))
+    if let Err(refusal) = start_status(name, iv, final_data_size) {
+        return SetProgress {
+            outcome: Err(refusal),
+            handle: zero_handle(),
+        };
+    }
+    SetProgress {
+        outcome: Ok(()),
+        handle: new_handle(name, flags, iv, final_data_size),
+    }
 }
 
 // 19 for a handle that no call leaves.
@@ -113,18 +123,20 @@ fn advance(handle: IncSetHandle, n: u32) -> IncSetHandle
     }
 }
 
-pub fn set_add_data(
-    handle: &mut IncSetHandle,
-    staging: &mut [u8],
-    chunk: &[u8],
-) -> Result<(), Refusal>
-    ensures { record { answer = record { status = status_of result; numbers = []; output = [] }; after = record { handle = handle.new; staging = staging.new } } ≡ set_add_data handle.old staging.old chunk.now }
+pub fn set_add_data(handle: IncSetHandle, staging: &mut [u8], chunk: &[u8]) -> SetProgress
+    ensures { record { answer = record { status = status_of result.outcome; numbers = []; output = [] }; after = record { handle = result.handle; staging = staging.new } } ≡ set_add_data handle staging.old chunk.now }
 {
-    let held = *handle;
-    add_status(held, staging, chunk)?;
-    parts::paste(staging, held.offset as usize, chunk);
-    *handle = advance(held, chunk.len() as u32);
-    Ok(())
+    if let Err(refusal) = add_status(handle, staging, chunk) {
+        return SetProgress {
+            outcome: Err(refusal),
+            handle,
+        };
+    }
+    parts::paste(staging, handle.offset as usize, chunk);
+    SetProgress {
+        outcome: Ok(()),
+        handle: advance(handle, chunk.len() as u32),
+    }
 }
 
 // 1 and 19: what a finalize asks before it is a set.

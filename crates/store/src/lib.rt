@@ -1,4 +1,4 @@
-// The store's calls. Each answers with a number of `status`, and writes nothing lent before that number is known.
+// The store's calls. Each answers with what it gives or with a `Refusal`, which has its number, and writes nothing lent before it is known which.
 #![tactic(auto)]
 
 pub mod answers;

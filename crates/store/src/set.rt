@@ -10,7 +10,7 @@ ghost use Rattle.spec.specs.Calls.{binding_of, room_of, store_set};
 ghost use Rattle.spec.specs.Demand2.{Undamaged};
 ghost use Rattle.slots.specs.Found.{CanInsert};
 ghost use Rattle.store.specs.Answers.{status_of};
-ghost use Rattle.store.specs.Parts.{set_arguments, set_early, stored_tests, binding, judgement, judged, record_written};
+ghost use Rattle.store.specs.Parts.{set_arguments, set_early, stored_tests, given, given_if, binding, binding_given, judgement, judged, record_written};
 
 use crate::judge::{Held, Judged};
 use crate::status::Refusal;
@@ -77,34 +77,35 @@ fn stored_status(flags: u32, stored: &[u8]) -> Result<(), Refusal>
 }
 
 // 8, 7, 9 where the card holds the name; 7 where it does not; then 12.
-#[tactic(auto, using(crate::proofs::Given::some_option), unfolding(spec::specs::Status::refuse_if, spec::specs::Decisions::set_held))]
-pub fn held_status(flags: u32, held: Held<'_>) -> Result<(), Refusal>
-    ensures { status_of result ≡ first_of (set_held require_replay_protection flags (binding held.entry)) }
+#[tactic(auto, using(crate::proofs::Given::in_chip_given), unfolding(spec::specs::Status::refuse_if, spec::specs::Decisions::set_held))]
+pub fn held_status(flags: u32, stored: Option<&[u8]>, tag_held: bool) -> Result<(), Refusal>
+    ensures { status_of result ≡ first_of (set_held require_replay_protection flags (binding_given (given stored.entry) tag_held)) }
 {
-    match held.stored {
+    match stored {
         Some(stored) => stored_status(flags, stored)?,
-        None if flag::write_once(flags) && held.tag.is_some() => {
+        None if flag::write_once(flags) && tag_held => {
             return Err(Refusal::AlreadyExists);
         }
         None => {}
     }
-    judge::downgrade_status(flags, held.tag.is_some())
+    judge::downgrade_status(flags, tag_held)
 }
 
 // 10, or done.
-#[tactic(auto, using(crate::proofs::Given::some_option), unfolding(spec::specs::Status::refuse_if))]
+#[tactic(auto, using(crate::proofs::Given::in_chip_given), unfolding(spec::specs::Status::refuse_if))]
 pub fn space_status(
     flags: u32,
-    held: Held<'_>,
+    held: bool,
     kv_space: bool,
+    tag_held: bool,
     rbp_space: bool,
 ) -> Result<(), Refusal>
-    ensures { status_of result ≡ first_of (space_tests require_replay_protection flags (binding held.entry) (record { kv = kv_space; rbp = rbp_space })) }
+    ensures { status_of result ≡ first_of (space_tests require_replay_protection flags (binding_given (given_if held []) tag_held) (record { kv = kv_space; rbp = rbp_space })) }
 {
-    if held.stored.is_none() && !kv_space {
+    if !held && !kv_space {
         return Err(Refusal::NoSpace);
     }
-    if flag::require_replay_protection(flags) && (held.tag.is_none() && !rbp_space) {
+    if flag::require_replay_protection(flags) && (!tag_held && !rbp_space) {
         return Err(Refusal::NoSpace);
     }
     Ok(())
@@ -156,7 +157,8 @@ fn verdict(kv: &[u8], rbp: &[u8], flags: u32, held: Held<'_>) -> Result<(), Refu
     requires { Undamaged kv.now rbp.now }
     ensures { status_of result ≡ first_of (set_held require_replay_protection flags (binding held.entry) ++ space_tests require_replay_protection flags (binding held.entry) (room_of kv.now rbp.now)) }
 {
-    held_status(flags, held)?;
+    let tag_held = held.tag.is_some();
+    held_status(flags, held.stored, tag_held)?;
     let card = Area {
         kind: AreaKind::Kv,
         bytes: kv,
@@ -165,7 +167,13 @@ fn verdict(kv: &[u8], rbp: &[u8], flags: u32, held: Held<'_>) -> Result<(), Refu
         kind: AreaKind::Rbp,
         bytes: rbp,
     };
-    space_status(flags, held, card.has_space(), chip.has_space())
+    space_status(
+        flags,
+        held.stored.is_some(),
+        card.has_space(),
+        tag_held,
+        chip.has_space(),
+    )
 }
 
 pub fn judge(

@@ -9,7 +9,7 @@ use Rattle.ffi.proofs.incremental_calls.securestore_set_add_data.Goals as goal
 pub returns : goal.returns
 returns c =
     let args = c.args in
-    let decode-handle = c.decode_handle-held in
+    let decode-handle = c.decode_handle in
     let set-add-data = c.set_add_data-answer in
     let encode-handle = c.encode_handle in
     let e = set-add-data.ensures ∙ ap (λ (h : IncSetHandle). set_add_data h args.staging.now args.chunk.now) decode-handle.ensures in record {

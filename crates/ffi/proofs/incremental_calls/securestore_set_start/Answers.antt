@@ -12,5 +12,5 @@ returns c =
     let e = set-start.ensures in
     record {
       value = c.number.ensures ∙ ap (λ (o : Outcome IncSetHandle Answer). o.answer.status) e;
-      handle_after = rw (c.encode_handle.ensures, c.unwrap_or.ensures, c.zero_handle.ensures) (ap (λ (o : Outcome IncSetHandle Answer). handle_bytes o.after) e);
+      handle_after = c.encode_handle.ensures ∙ ap (λ (o : Outcome IncSetHandle Answer). handle_bytes o.after) e;
     }

@@ -1,17 +1,17 @@
 -- `store::set::held_status`: 8, 7, 9 for a known name, 7 for a new one; then 12.
 use mathlib.Core.Path.{◌≡◌, refl, sym, ap, ◌∙◌}
 use mathlib.Core.Bool.{Bool, false, ◌&&◌}
-use mathlib.Core.List.{List, ◌∷◌, ◌++◌}
+use mathlib.Core.List.{List, [], ◌∷◌, ◌++◌}
 use mathlib.Core.Option.{none, some}
 use Prim.Native.Nat.{ℕ}
 use Rattle.spec.specs.Status.{◌when◌, refuse_if, first_of}
 use Rattle.spec.specs.Record.{require_replay_protection, write_once}
 use Rattle.spec.specs.Request.{Binding}
 use Rattle.spec.specs.Decisions.{in_chip, set_held}
-use Rattle.store.specs.Parts.{given, binding, stored_tests, downgrade_tests}
-use Rattle.store.proofs.Given.{some_option}
+use Rattle.store.specs.Parts.{given, binding_given, stored_tests, downgrade_tests}
+use Rattle.store.proofs.Given.{in_chip_given}
 use Rattle.store.proofs.Tests.{went_on}
-use Rattle.store.proofs.set.held_status.Goals.{in-Some+in_ok-stored_status-in-Some, in-None+then-write_once+else-is_some, in-None+else-write_once}
+use Rattle.store.proofs.set.held_status.Goals.{in-Some+in_ok-stored_status-in-Some, in-None+then-write_once+else-tag_held, in-None+else-write_once}
 use Rattle.store.proofs.set.held_status.Goals as goal
 
 module _ (flags : ℕ) (b : Binding) where
@@ -29,16 +29,16 @@ pub returns : goal.returns
 unfolding refuse_if
 returns c =
     let flags = c.args.flags in
-    let b = binding c.args.held in
-    let chip = some_option c.args.held.tag in
-    let last = c.downgrade_status.ensures ∙ ap (λ (t : Bool). first_of (downgrade_tests flags t)) (c.is_some-2.ensures ∙ sym chip) in
-    elim c.match-held.branch [
+    let b = binding_given (given c.args.stored) c.args.tag_held in
+    let chip = in_chip_given c.args.tag_held [] in
+    let last = c.downgrade_status.ensures ∙ ap (λ (t : Bool). first_of (downgrade_tests flags t)) (sym chip) in
+    elim c.match-stored.branch [
       | in-Some+in_ok-stored_status-in-Some w ↦
           went_on (stored_tests flags w.in-Some.stored.now) (downgrade_tests flags (in_chip b)) refl w.in_ok-stored_status-in-Some.ensures _ last
           ∙ known flags b w.in-Some.stored.now (ap given w.in-Some.is)
-      | in-None+then-write_once+else-is_some w ↦
+      | in-None+then-write_once+else-tag_held w ↦
           let asked : (write_once flags && in_chip b) ≡ false =
-          rw (← w.write_once.ensures, w.if-write_once.true) (chip ∙ sym w.is_some.ensures ∙ w.if-is_some.false) in
+          rw (← w.write_once.ensures, w.if-write_once.true) (chip ∙ w.if-tag_held.false) in
           last ∙ absent flags b (ap given w.in-None.is) false asked
       | in-None+else-write_once w ↦
           let asked : (write_once flags && in_chip b) ≡ false = rw (← w.write_once.ensures, w.if-write_once.false) in
