@@ -198,6 +198,10 @@ module _ (file : Bor (List ℕ)) where
     reader-own : r ≡ at_place file 36
     reader-own = ap (λ (t : Taken Header). t.after) whole
 
+    -- the reader's file is still the one that has this header
+    pub file-own : read_header r.file ≡ read_header file
+    file-own = ap (λ (x : KeyFileReader). read_header x.file) reader-own
+
     -- a header that no file has
     not-of-a-file : (WellFormed file.now → ⊥) → Err InvalidKeyFile ≡ parse_key_file file.now
     not-of-a-file n = sym (parse_refused file.now n)

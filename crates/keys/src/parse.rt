@@ -1,7 +1,7 @@
 // A key file's fields, taken one after the other, and the file judged.
-ghost use Rattle.std.specs.Prelude.{◌≡◌};
+ghost use Rattle.std.specs.Prelude.{◌≡◌, Ok};
 ghost use Rattle.keys.specs.KeyFile.{parse_key_file};
-ghost use Rattle.keys.specs.Reader.{header_at};
+ghost use Rattle.keys.specs.Reader.{part_at, header_at, read_header, read_material};
 
 use crate::key_file;
 use crate::key_file::{KeyAttributes, KeyFile};
@@ -9,10 +9,10 @@ use crate::reader::KeyFileReader;
 use store::status::Refusal;
 
 #[derive(Clone, Copy)]
-struct Header {
-    version: u32,
-    attributes: KeyAttributes,
-    material_len: u32,
+pub struct Header {
+    pub version: u32,
+    pub attributes: KeyAttributes,
+    pub material_len: u32,
 }
 
 fn take_header(r: &mut KeyFileReader) -> Result<Header, Refusal>
@@ -40,19 +40,28 @@ fn take_header(r: &mut KeyFileReader) -> Result<Header, Refusal>
     })
 }
 
-// What a file says, or 13.
+// The material behind a file's header, as long as the header says.
+fn take_material<'a>(r: &mut KeyFileReader<'a>, header: Header) -> Result<&'a [u8], Refusal>
+    requires { record { answer = Ok header; after = r.old } ≡ read_header r.old.file }
+    ensures part { record { answer = result; after = r.new } ≡ part_at r.old header.material_len }
+    ensures of_file { record { answer = result; after = r.new } ≡ read_material r.old.file }
+{
+    r.take_material(header.material_len as usize)
+}
+
+// What a file says, or 13. Header and material are taken, and then judged.
 pub fn parse_key_file(file: &[u8]) -> Result<KeyFile, Refusal>
     ensures { result ≡ parse_key_file file.now }
 {
     let mut r = KeyFileReader::new(file);
     let header = take_header(&mut r)?;
+    take_material(&mut r, header)?;
     if header.version != key_file::KEY_FILE_VERSION {
         return Err(Refusal::InvalidKeyFile);
     }
     if key_file::MAX_KEY_MATERIAL < header.material_len as usize {
         return Err(Refusal::InvalidKeyFile);
     }
-    r.take_material(header.material_len as usize)?;
     if r.pos != file.len() {
         return Err(Refusal::InvalidKeyFile);
     }

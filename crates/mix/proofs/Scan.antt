@@ -4,7 +4,7 @@ use mathlib.Core.Logic.{◌≢◌}
 use mathlib.Core.Bool.{Bool, true, false, not}
 use mathlib.Core.List.{List, [], ◌∷◌, ◌++◌, map, flatten, append_assoc}
 use mathlib.Core.Option.{none, some}
-use Prim.Native.Nat.{ℕ, suc, ◌+◌, ◌<◌}
+use Prim.Native.Nat.{ℕ, suc, ◌+◌, ◌≤◌, ◌<◌}
 use native.Mathlib.Omega.{arith}
 use borrow.Author.Tests.{eqb-true, eqb-false, ne_eqb, le-leb}
 use lib.Dec.{eqb, leb}
@@ -23,7 +23,7 @@ use Rattle.mix.specs.Mix.{session_at, mix_valid}
 use Rattle.mix.specs.Calls.{mix_prefix, mix_named, selected, first_name, mix_names, mix_record, mix_data, record_tests, holders}
 use Rattle.mix.specs.Search.{Seen, seen_on, one_more, advanced, search_status, try_record, try_slot, scan}
 use Rattle.mix.specs.declared.find.Matches.{Matches}
-use Rattle.mix.specs.declared.find.Matches.TheVariants.{Zero, One, More}
+use Rattle.mix.specs.declared.find.Matches.TheVariants.{Zero, One}
 
 -- the names of mixes in slots
 abbrev pub names_in : List (List ℕ) → List Name
@@ -139,19 +139,19 @@ module _ (kv rbp key : List ℕ) where
     abbrev count : Matches → ℕ
     count Zero = 0
     count (One at) = 1
-    count More = 2
+    count rest = 2
 
     lasts-more : (seen : Matches) (i l : ℕ) → lasts (count (one_more seen i) + l) ≡ lasts (count seen + suc l)
     lasts-more Zero i l = let e : 1 + l ≡ 0 + suc l = omega arith in ap lasts e
     lasts-more (One at) i l = let e : 2 + l ≡ 1 + suc l = omega arith in ap lasts e
-    lasts-more More i l =
+    lasts-more rest i l =
         rw (le-leb 2 (2 + l) (omega arith), le-leb 2 (2 + suc l) (omega arith), ne_eqb (2 + l) 0 (omega arith), ne_eqb (2 + suc l) 0 (omega arith))
 
     status-seen : (seen : Matches) → search_status (seen_on seen) ≡ first_of (lasts (count seen))
     unfolding search_status refuse_if
     status-seen Zero = refl
     status-seen (One at) = refl
-    status-seen More = refl
+    status-seen rest = refl
 
     pub status-refused : (k : ℕ) (seen : Matches) → k ≢ ok → search_status (record { status = k; seen = seen }) ≡ k
     unfolding search_status refuse_if
@@ -181,15 +181,21 @@ module _ (kv rbp key : List ℕ) where
 
     -- ---- the place
 
-    more-stays : (i : ℕ) (ss : List (List ℕ)) (a : ℕ) → scanned i ss More ≡ seen_on (One a) → ⊥
-    more-stays i [] a q = let z : More ≡ One a = ap (λ (s : Seen). s.seen) q in cc
-    more-stays i (slot ∷ ss) a q = go (λ z. more-stays (suc i) ss a z) (step i slot ss More)
+    -- two or more stay so
+    two-stay : (seen : Matches) (i : ℕ) → 2 ≤ count seen → 2 ≤ count (one_more seen i)
+    two-stay Zero i h = absurd (omega (arith, h))
+    two-stay (One at) i h = omega arith
+    two-stay rest i h = omega arith
+
+    more-stays : (i : ℕ) (ss : List (List ℕ)) (seen : Matches) (a : ℕ) → 2 ≤ count seen → scanned i ss seen ≡ seen_on (One a) → ⊥
+    more-stays i [] seen a m q = let z : count seen ≡ 1 = ap (λ (s : Seen). count s.seen) q in omega (arith, m, z)
+    more-stays i (slot ∷ ss) seen a m q = go (λ s k z. more-stays (suc i) ss s a k z) (step i slot ss seen)
       where
-        go : (scanned (suc i) ss More ≡ seen_on (One a) → ⊥) → Step i slot ss More → ⊥
-        go rest (no_mix f e) = rest (sym e ∙ q)
+        go : ((s : Matches) → 2 ≤ count s → scanned (suc i) ss s ≡ seen_on (One a) → ⊥) → Step i slot ss seen → ⊥
+        go rest (no_mix f e) = rest seen m (sym e ∙ q)
         go rest (refused n f x e) = let z : Zero ≡ One a = ap (λ (s : Seen). s.seen) (sym e ∙ q) in cc
-        go rest (another n f x o e) = rest (sym e ∙ q)
-        go rest (holder n h f x o e) = rest (sym e ∙ q)
+        go rest (another n f x o e) = rest seen m (sym e ∙ q)
+        go rest (holder n h f x o e) = rest (one_more seen i) (two-stay seen i m) (sym e ∙ q)
 
     -- the first record that holds the session stays
     one-stays : (i : ℕ) (ss : List (List ℕ)) (b a : ℕ) → scanned i ss (One b) ≡ seen_on (One a) → a ≡ b
@@ -200,7 +206,7 @@ module _ (kv rbp key : List ℕ) where
         go rest (no_mix f e) = rest (sym e ∙ q)
         go rest (refused n f x e) = let z : Zero ≡ One a = ap (λ (s : Seen). s.seen) (sym e ∙ q) in cc
         go rest (another n f x o e) = rest (sym e ∙ q)
-        go rest (holder n h f x o e) = absurd (more-stays (suc i) ss a (sym e ∙ q))
+        go rest (holder n h f x o e) = absurd (more-stays (suc i) ss (one_more (One b) i) a (omega arith) (sym e ∙ q))
 
     -- an index that is i in front of a slot of the first holder
     record Found (i : ℕ) (ss : List (List ℕ)) (at : ℕ) : Type 0 where

@@ -26,7 +26,7 @@ use store::{get, guard};
 
 // The records of a session in the slots so far: none, one at a place, or more.
 #[derive(Clone, Copy)]
-enum Matches {
+pub enum Matches {
     Zero,
     One(usize),
     More,
