@@ -7,7 +7,6 @@ use crate::place::Place;
 use crate::print;
 use crate::values::{read_bytes, some};
 use crate::words::Setup;
-use buffers::parts::array;
 use text::parts::field;
 
 pub const CHIP: usize = 37960;
@@ -155,8 +154,8 @@ impl Bench {
     }
 
     // All bytes of card and chip.
-    pub fn media(&self) -> [u8; MEDIA] {
-        array::<MEDIA>(&self.bytes[..MEDIA])
+    pub fn media(&self) -> &[u8] {
+        &self.bytes[..MEDIA]
     }
 
     pub fn set_media(&mut self, card: &[u8], chip: &[u8]) {
