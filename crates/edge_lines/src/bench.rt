@@ -99,8 +99,9 @@ fn copy_at(copy: usize) -> usize
 }
 
 impl Bench {
+    // With a key of 16 and an IV of 8 zeros, whose bytes a program puts there: a value that is written to before it is handed back stands twice on the stack.
     pub fn new() -> Bench {
-        let mut bench = Bench {
+        Bench {
             bytes: [0; MEMORY],
             lens: Lens {
                 card: 0,
@@ -111,10 +112,7 @@ impl Bench {
             kept: [None; 4],
             key: 16,
             iv: 8,
-        };
-        put(bench.reg_mut(KEY), 0, b"the device's key");
-        put(bench.reg_mut(IV), 0, b"the iv 8");
-        bench
+        }
     }
 
     // The first bytes of register k.

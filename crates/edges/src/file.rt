@@ -1,9 +1,9 @@
 // A file's lines, one after the other, and its groups.
 use crate::{calls, sweep};
 use edge_lines::answer::Answer;
-use edge_lines::areas::front;
+use edge_lines::areas::{front, put};
 use edge_lines::args::{Args, read_args};
-use edge_lines::bench::{Bench, LENT};
+use edge_lines::bench::{Bench, IV, KEY, LENT};
 use edge_lines::print;
 use edge_lines::words::{Row, Setup, Word};
 use text::parts::{field, field_count, line, line_count};
@@ -162,8 +162,15 @@ impl<'a> Run<'a, '_> {
     }
 }
 
+// The key and the IV that a file begins with.
+fn put_key_and_iv(bench: &mut Bench) {
+    put(bench.reg_mut(KEY), 0, b"the device's key");
+    put(bench.reg_mut(IV), 0, b"the iv 8");
+}
+
 fn run_text<'a>(file: &'a [u8], text: &'a [u8]) -> Tally {
     let mut bench = Bench::new();
+    put_key_and_iv(&mut bench);
     let mut run = Run {
         file,
         text,
