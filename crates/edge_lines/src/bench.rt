@@ -1,5 +1,5 @@
 // What lasts from line to line, and the words that prepare it.
-ghost use Rattle.std.specs.Prelude.{◌+◌, ◌≤◌};
+ghost use Rattle.std.specs.Prelude.{◌≡◌, ◌+◌, ◌≤◌, length};
 
 use crate::areas::{flip, flip_byte, front, put, span};
 use crate::args::Args;
@@ -152,7 +152,9 @@ impl Bench {
     }
 
     // All bytes of card and chip.
-    pub fn media(&self) -> &[u8] {
+    pub fn media(&self) -> &[u8]
+        ensures { length result.now ≡ 43290 }
+    {
         &self.bytes[..MEDIA]
     }
 
