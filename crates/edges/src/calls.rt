@@ -3,7 +3,7 @@ use buffers::numbers::le_at;
 use edge_lines::answer::Answer;
 use edge_lines::areas::{front_mut, put};
 use edge_lines::args::Args;
-use edge_lines::bench::{ATTRIBUTES, Bench, CHIP, HANDLE, LENT, STAGING};
+use edge_lines::bench::{ATTRIBUTES, Bench, CHIP, HANDLE, LENT, MEDIA, STAGING};
 use edge_lines::place::Place;
 use edge_lines::words::Call;
 use edge_mixes::answered;
@@ -216,7 +216,8 @@ fn made(call: Call, args: Args, bench: &mut Bench) -> Answer {
 
 // A call of a line, of a sweep or of a fill: where it is refused, every byte of card and chip must be as it was.
 pub fn checked_call(call: Call, args: Args, bench: &mut Bench) -> Answer {
-    let before = bench.media();
+    let mut before = [0u8; MEDIA];
+    put(&mut before, 0, bench.media());
     let answer = made(call, args, bench);
-    answer.and_changed(before != bench.media())
+    answer.and_changed(&before[..] != bench.media())
 }

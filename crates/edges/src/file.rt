@@ -1,9 +1,9 @@
 // A file's lines, one after the other, and its groups.
 use crate::{calls, sweep};
 use edge_lines::answer::Answer;
-use edge_lines::areas::front;
+use edge_lines::areas::{front, put};
 use edge_lines::args::{Args, read_args};
-use edge_lines::bench::{Bench, LENT};
+use edge_lines::bench::{Bench, IV, KEY, LENT};
 use edge_lines::print;
 use edge_lines::words::{Row, Setup, Word};
 use text::parts::{field, field_count, line, line_count};
@@ -77,18 +77,18 @@ impl Line<'_> {
 
 // Where a run of a file's lines stands: what lasts, the group's tally and the tally of all before it, and the line that names the group.
 #[derive(Drop)]
-struct Run<'a> {
+struct Run<'a, 'b> {
     file: &'a [u8],
     text: &'a [u8],
-    bench: Bench,
+    bench: &'b mut Bench,
     group: Tally,
     before: Tally,
     name: Option<&'a [u8]>,
 }
 
-impl<'a> Run<'a> {
+impl<'a> Run<'a, '_> {
     fn answer(&mut self, word: Word, line: &[u8], args: Args) -> Option<Answer> {
-        let bench = &mut self.bench;
+        let bench = &mut *self.bench;
         match word {
             Word::Call(call) => Some(calls::checked_call(call, args, bench)),
             Word::At => sweep::at(line, args, bench),
@@ -102,7 +102,7 @@ impl<'a> Run<'a> {
 
     // A line whose arguments can be read is carried out.
     fn run_answering(&mut self, row: Row, line: Line) -> Tally {
-        let answer = match read_args(row.kinds, line.text, &mut self.bench) {
+        let answer = match read_args(row.kinds, line.text, self.bench) {
             Ok(args) => self.answer(row.word, line.text, args),
             Err(_) => None,
         };
@@ -110,7 +110,7 @@ impl<'a> Run<'a> {
     }
 
     fn run_preparing(&mut self, word: Setup, row: Row, line: Line) -> Tally {
-        let (ok, args) = match read_args(row.kinds, line.text, &mut self.bench) {
+        let (ok, args) = match read_args(row.kinds, line.text, self.bench) {
             Ok(args) => (true, args),
             Err(args) => (false, args),
         };
@@ -162,11 +162,19 @@ impl<'a> Run<'a> {
     }
 }
 
+// The key and the IV that a file begins with.
+fn put_key_and_iv(bench: &mut Bench) {
+    put(bench.reg_mut(KEY), 0, b"the device's key");
+    put(bench.reg_mut(IV), 0, b"the iv 8");
+}
+
 fn run_text<'a>(file: &'a [u8], text: &'a [u8]) -> Tally {
+    let mut bench = Bench::new();
+    put_key_and_iv(&mut bench);
     let mut run = Run {
         file,
         text,
-        bench: Bench::new(),
+        bench: &mut bench,
         group: Tally::default(),
         before: Tally::default(),
         name: None,
