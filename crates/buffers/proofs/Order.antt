@@ -1,19 +1,15 @@
 -- The order of byte strings is a strict total order.
 use mathlib.Core.Path.{◌≡◌, refl, sym, ap, ◌∙◌}
-use mathlib.Core.Logic.{◌⊎◌, inl, inr, ⊎_elim}
-use mathlib.Core.Bool.{true, false}
+use mathlib.Core.Logic.{◌≢◌, ◌⊎◌, inl, inr, ⊎_elim}
+use mathlib.Core.Bool.{Bool, true, false, ◌&&◌, ◌||◌, or-false}
 use mathlib.Core.List.{List, [], ◌∷◌}
-use Prim.Native.Nat.{ℕ, zero, suc, ◌<◌}
+use Prim.Native.Nat.{ℕ, zero, suc, ◌+◌, ◌*◌, ◌≤◌, ◌<◌, min}
 use native.Mathlib.Nat.{not-suc-le-zero, le_of_suc-le-suc}
 use native.Mathlib.Omega.{arith}
-use borrow.Author.Tests.{eqb-true, eq-eqb, ltb-true, ltb-false, lt-ltb, le-ltb}
+use borrow.Author.Tests.{eqb-true, eqb-false, eq-eqb, ne_eqb, ltb-true, ltb-false, lt-ltb, le-ltb}
 use lib.Dec.{eqb, ltb}
-use lib.ListN.{length, get_or, take, drop}
-use Rattle.std.specs.Ordering.{is_lt, nat_cmp}
-use Rattle.std.proofs.Common.{Ordering}
-use Rattle.std.specs.Cmp.Lexicographic.{slice_cmp}
-use Rattle.std.proofs.lemmas.Bool.Decides.{nat_tests}
-use Rattle.std.proofs.lemmas.Cmp.{same_from_slice_cmp}
+use lib.ListN.{length, get_or, take, drop, drop_of_length-le}
+use lib.Seq.{drop-cons}
 use Rattle.buffers.specs.Compare.{precedes}
 use Rattle.buffers.specs.Laws.{FirstDifference, OrderLaws}
 use Rattle.buffers.proofs.Split.{split, clash, both}
@@ -66,6 +62,77 @@ total (x ∷ a) (y ∷ b) = split (ltb x y)
       | inr k ↦ elim k [ inl h ↦ inr (inl (λ i. z i ∷ h i)) | inr h ↦ inr (inr (equal-first y x b a (sym z) ∙ h)) ]
     ]))
 
+-- ---- two byte strings from place i on, as far as they are equal before it
+
+module _ (a b : List ℕ) (i : ℕ) where
+  -- one of them is at its end
+  pub ends-left : i ≡ min (length a) (length b) → precedes (drop i a) (drop i b) ≡ ltb (length a) (length b)
+  ends-left e = split (ltb (length a) (length b))
+      (λ h. let k = ltb-true (length a) (length b) h in rw (h, drop_of_length-le a {i = i} (omega arith), drop-cons b i 0 (omega arith)))
+      (λ h. let k = ltb-false (length a) (length b) h in rw (h, drop_of_length-le b {i = i} (omega arith)))
+
+  pub byte_left : i < length a → i < length b → get_or a i 0 ≢ get_or b i 0 → precedes (drop i a) (drop i b) ≡ ltb (get_or a i 0) (get_or b i 0)
+  byte_left h k n = rw (drop-cons a i 0 h, drop-cons b i 0 k, ne_eqb (get_or a i 0) (get_or b i 0) n) (or-false (ltb (get_or a i 0) (get_or b i 0)))
+
+  pub bytes_left : i < length a → i < length b → get_or a i 0 ≡ get_or b i 0 → precedes (drop (suc i) a) (drop (suc i) b) ≡ precedes (drop i a) (drop i b)
+  bytes_left h k e =
+      rw (drop-cons a i 0 h, drop-cons b i 0 k) (sym (equal-first (get_or a i 0) (get_or b i 0) (drop (suc i) a) (drop (suc i) b) e))
+
+-- ---- the same, some bytes at a time, as one number, the first byte highest
+
+abbrev be_at : ℕ → List ℕ → ℕ → ℕ
+be_at zero l i = 0
+be_at (suc k) l i = be_at k l i * 256 + get_or l (i + k) 0
+
+abbrev be32 : List ℕ → ℕ → ℕ
+be32 l i = get_or l i 0 * 0x1000000 + get_or l (i + 1) 0 * 0x10000 + get_or l (i + 2) 0 * 0x100 + get_or l (i + 3) 0
+
+be-four : (l : List ℕ) (i : ℕ) → be32 l i ≡ be_at 4 l i
+be-four l i = let e : i + 0 ≡ i = omega arith in rw e (omega arith)
+
+-- one more byte: it decides where the numbers before it are equal
+digit-more : (u v x y p q : ℕ) (rest : Bool) → x < 256 → y < 256 → p ≡ u * 256 + x → q ≡ v * 256 + y
+    → (ltb u v || (eqb u v && (ltb x y || (eqb x y && rest)))) ≡ (ltb p q || (eqb p q && rest))
+digit-more u v x y p q rest hx hy ep eq = split (ltb u v)
+    (λ e. let h = ltb-true u v e in rw (e, lt-ltb p q (omega arith)))
+    (λ e. split (eqb u v)
+    (λ f.
+    let h = eqb-true u v f in
+    split (ltb x y)
+    (λ l. let k = ltb-true x y l in rw (e, f, l, lt-ltb p q (omega arith)))
+    (λ l.
+    let k = ltb-false x y l in
+    split (eqb x y)
+    (λ g. let z = eqb-true x y g in rw (e, f, l, g, le-ltb p q (omega arith), eq-eqb p q (omega arith)))
+    (λ g. let z = eqb-false x y g in rw (e, f, l, g, le-ltb p q (omega arith), ne_eqb p q (λ n. z (omega arith))))))
+    (λ f.
+    let h = ltb-false u v e in
+    let z = eqb-false u v f in
+    rw (e, f, le-ltb p q (omega (arith, z)), ne_eqb p q (λ n. z (omega arith)))))
+
+module _ (a b : List ℕ) (i : ℕ) (fa : (j : ℕ) → get_or a j 0 < 256) (fb : (j : ℕ) → get_or b j 0 < 256) where
+  number-left : (k : ℕ) → i + k ≤ length a → i + k ≤ length b
+      → precedes (drop i a) (drop i b)
+      ≡ (ltb (be_at k a i) (be_at k b i) || (eqb (be_at k a i) (be_at k b i) && precedes (drop (i + k) a) (drop (i + k) b)))
+  number-left zero ha hb = let e : i + 0 ≡ i = omega arith in rw e
+  number-left (suc k) ha hb =
+      let e : i + suc k ≡ suc (i + k) = omega arith in
+      let rest = precedes (drop (suc (i + k)) a) (drop (suc (i + k)) b) in
+      number-left k (omega arith) (omega arith)
+      ∙ rw (e, drop-cons a (i + k) 0 (omega arith), drop-cons b (i + k) 0 (omega arith))
+      (digit-more (be_at k a i) (be_at k b i) (get_or a (i + k) 0) (get_or b (i + k) 0) _ _ rest (fa (i + k)) (fb (i + k)) refl refl)
+
+  -- four of each, as the code has their numbers
+  module _ (x y : ℕ) (ha : i + 4 ≤ length a) (hb : i + 4 ≤ length b) (ex : x ≡ be32 a i) (ey : y ≡ be32 b i) where
+    four-left : precedes (drop i a) (drop i b) ≡ (ltb x y || (eqb x y && precedes (drop (i + 4) a) (drop (i + 4) b)))
+    four-left = let e = ex ∙ be-four a i in let f = ey ∙ be-four b i in rw (e, f) (number-left 4 ha hb)
+
+    pub four-differ : x ≢ y → precedes (drop i a) (drop i b) ≡ ltb x y
+    four-differ n = four-left ∙ rw (ne_eqb x y n) (or-false (ltb x y))
+
+    pub four_same : x ≡ y → precedes (drop (i + 4) a) (drop (i + 4) b) ≡ precedes (drop i a) (drop i b)
+    four_same e = sym (four-left ∙ rw (le-ltb x y (omega arith), eq-eqb x y e))
+
 -- ---- the order, byte by byte
 
 first-difference : (a b : List ℕ) → precedes a b ≡ true → FirstDifference a b
@@ -103,8 +170,3 @@ order-laws = record {
   transitive = transitive;
   total = total;
 }
-
--- ---- the library's order
-
-pub less_precedes : (a b : List ℕ) (o : Ordering) → o ≡ slice_cmp nat_cmp a b → is_lt o ≡ precedes a b
-less_precedes = same_from_slice_cmp nat_cmp is_lt precedes refl (λ _ _. refl) (λ _ _. refl) (λ x y xs ys o h. grind (arith, nat_tests))

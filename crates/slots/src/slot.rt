@@ -163,7 +163,7 @@ impl<'a> Slot<'a> {
 pub fn has_prefix(name: &[u8], prefix: &[u8]) -> bool
     ensures { result ≡ has_prefix prefix.now name.now }
 {
-    name.starts_with(prefix)
+    prefix.len() <= name.len() && compare::bytes_equal(prefix, &name[..prefix.len()])
 }
 
 fn put_header(kind: AreaKind, slot: &mut [u8], name: &[u8], payload: &[u8])
