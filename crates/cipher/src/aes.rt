@@ -100,7 +100,7 @@ pub(crate) fn word_at(bytes: &[u8], i: usize) -> u32
     numbers::be32_at(bytes, i)
 }
 
-impl Tables {
+impl Tables<'_> {
     fn substitute(&self, b: u8) -> u8
         ensures { result ≡ sub_byte b }
     {
@@ -124,15 +124,15 @@ impl Tables {
         x ^ y ^ z ^ w
     }
 
-    // One column of SubBytes and ShiftRows, for the last round.
+    // One column of SubBytes and ShiftRows, for the last round. The bytes 1 and 2 of an entry are the substitute itself: each is read where its shift is the shortest.
     fn unmixed(&self, a: u32, b: u32, c: u32, d: u32) -> u32
         ensures { number_word result ≡ sub_word (diagonal (number_word a) (number_word b) (number_word c) (number_word d)) }
     {
         u32::from_be_bytes([
-            self.substitute(a.to_be_bytes()[0]),
-            self.substitute(b.to_be_bytes()[1]),
-            self.substitute(c.to_be_bytes()[2]),
-            self.substitute(d.to_be_bytes()[3]),
+            self.mix_entry(a.to_be_bytes()[0]).to_be_bytes()[1],
+            self.mix_entry(b.to_be_bytes()[1]).to_be_bytes()[1],
+            self.mix_entry(c.to_be_bytes()[2]).to_be_bytes()[2],
+            self.mix_entry(d.to_be_bytes()[3]).to_be_bytes()[2],
         ])
     }
 
@@ -148,11 +148,17 @@ impl Tables {
         s.by_diagonal(|a, b, c, d| self.unmixed(a, b, c, d))
     }
 
-    // SubWord, for the key expansion: a column whose four bytes are of one word.
+    // SubWord, for the key expansion, which reads the S-box. With the S-box in the last round too a block is slower by a fiftieth or so.
     fn sub_word(&self, w: u32) -> u32
         ensures { number_word result ≡ sub_word (number_word w) }
     {
-        self.unmixed(w, w, w, w)
+        let [b0, b1, b2, b3] = w.to_be_bytes();
+        u32::from_be_bytes([
+            self.substitute(b0),
+            self.substitute(b1),
+            self.substitute(b2),
+            self.substitute(b3),
+        ])
     }
 
     // What the last column adds to the four columns of a round.
@@ -226,12 +232,12 @@ pub fn expand_key(key: &[u8; 16]) -> [u32; 44]
 // A key in use: the tables, and the key's expansion.
 #[derive(Clone, Copy)]
 pub(crate) struct Cipher<'a> {
-    pub(crate) tables: &'a Tables,
+    pub(crate) tables: &'a Tables<'a>,
     pub(crate) keys: &'a [u32; 44],
 }
 
 impl<'a> Cipher<'a> {
-    pub(crate) fn new(tables: &'a Tables, keys: &'a [u32; 44]) -> Self
+    pub(crate) fn new(tables: &'a Tables<'a>, keys: &'a [u32; 44]) -> Self
         ensures { result.keys.now ≡ keys.now }
     {
         Cipher { tables, keys }

@@ -88,29 +88,30 @@ pub fn prepare_if(wanted: bool, tables: &Tables, key: [u8; 16]) -> DeviceKey
 }
 
 // A key derived from the device key, which was prepared.
-fn derive_prepared(tables: &Tables, device: &DeviceKey, prefix: &[u8], name: &[u8]) -> [u8; 16]
+fn derive_prepared(device: &DeviceKey, prefix: &[u8], name: &[u8]) -> [u8; 16]
     requires { IsPrepared device.now }
     ensures { result ≡ derived_key device.now.key prefix.now name.now }
 {
+    let tables = Tables::new();
     let mac = MacKey {
-        cipher: Cipher::new(tables, &device.keys),
+        cipher: Cipher::new(&tables, &device.keys),
         zero: Columns::load(&device.zero),
     };
     mac.derive(device.key, prefix, name)
 }
 
 // The key that a name's data is encrypted under. Two public names, which may not change: each is a line over `derive_prepared`.
-pub fn derive_encryption_key(tables: &Tables, device: &DeviceKey, name: &[u8]) -> [u8; 16]
+pub fn derive_encryption_key(device: &DeviceKey, name: &[u8]) -> [u8; 16]
     requires { IsPrepared device.now }
     ensures { result ≡ derived_key device.now.key enc_prefix name.now }
 {
-    derive_prepared(tables, device, &ENC, name)
+    derive_prepared(device, &ENC, name)
 }
 
 // The key that a name's record is authenticated under.
-pub fn derive_authentication_key(tables: &Tables, device: &DeviceKey, name: &[u8]) -> [u8; 16]
+pub fn derive_authentication_key(device: &DeviceKey, name: &[u8]) -> [u8; 16]
     requires { IsPrepared device.now }
     ensures { result ≡ derived_key device.now.key auth_prefix name.now }
 {
-    derive_prepared(tables, device, &AUTH, name)
+    derive_prepared(device, &AUTH, name)
 }

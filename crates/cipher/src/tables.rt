@@ -71,15 +71,15 @@ pub fn mix_table() -> [u32; 256]
     *Tables::new().mix
 }
 
-// Both tables, lent as they stand, so that no operation copies one.
+// Both tables, lent as they stand, so that no operation copies one. A caller may lend its own.
 #[derive(Clone, Copy)]
-pub struct Tables {
-    pub mix: &'static [u32; 256],
-    pub sub: &'static [u8; 256],
+pub struct Tables<'a> {
+    pub mix: &'a [u32; 256],
+    pub sub: &'a [u8; 256],
     pub ghost right: { (mix.now ≡ mix_table) × (sub.now ≡ sbox) },
 }
 
-impl Tables {
+impl Tables<'static> {
     pub fn new() -> Self
         ensures { (result.mix.now ≡ mix_table) × (result.sub.now ≡ sbox) }
     {

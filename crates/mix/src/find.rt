@@ -62,7 +62,6 @@ impl Matches {
 struct Records<'a> {
     kv: &'a [u8],
     rbp: &'a [u8],
-    tables: &'a Tables,
     device: &'a DeviceKey,
     ghost passed: { first_of (area_tests kv.now rbp.now (key_sized device.now.key)) ≡ ok },
     ghost prepared: { IsPrepared device.now },
@@ -85,7 +84,6 @@ impl<'a> Records<'a> {
     {
         let mut data = [0u8; 480];
         let keys = Keys {
-            tables: self.tables,
             device: self.device,
             name,
         };
@@ -130,7 +128,6 @@ impl<'a> Records<'a> {
         let seen = self.search(session_id)?;
         let at = seen.only()?;
         let keys = Keys {
-            tables: self.tables,
             device: self.device,
             name: self.card().name_at(at),
         };
@@ -138,7 +135,7 @@ impl<'a> Records<'a> {
     }
 }
 
-// Tables and device key are prepared once for all records. Card, chip and key stand one by one, as C hands them over here, and as they do in the other call: both signatures stay.
+// The device key is prepared once for all records. Card, chip and key stand one by one, as C hands them over here, and as they do in the other call: both signatures stay.
 pub fn find_encoded_mix(
     kv: &[u8],
     rbp: &[u8],
@@ -152,12 +149,10 @@ pub fn find_encoded_mix(
         return Err(Refusal::Length);
     }
     guard::guard_areas(kv, rbp, device_key.len() == 16)?;
-    let tables = Tables::new();
-    let device = kdf::prepare(&tables, parts::array(device_key));
+    let device = kdf::prepare(&Tables::new(), parts::array(device_key));
     let records = Records {
         kv,
         rbp,
-        tables: &tables,
         device: &device,
     };
     records.find(session_id, mix_buf)

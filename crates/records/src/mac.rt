@@ -8,6 +8,7 @@ ghost use Rattle.records.specs.Parts.{cmac_over};
 use crate::keys::Keys;
 use crate::record::Record;
 use buffers::{compare, parts};
+use cipher::tables::Tables;
 
 impl Keys<'_> {
     // The CMAC that a name's record must have: over the name, then the metadata and the data as stored, which stand side by side.
@@ -15,8 +16,8 @@ impl Keys<'_> {
         requires { IsPrepared self.now.device.now }
         ensures { result ≡ cmac_over self.now.device.now.key self.now.name.now covered.now }
     {
-        let key = cipher::kdf::derive_authentication_key(self.tables, self.device, self.name);
-        cipher::cmac::tag_parts(self.tables, key, self.name, covered)
+        let key = cipher::kdf::derive_authentication_key(self.device, self.name);
+        cipher::cmac::tag_parts(&Tables::new(), key, self.name, covered)
     }
 
     // The bits in which a record's CMAC differs from the computed one: none where it verifies.

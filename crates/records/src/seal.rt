@@ -7,6 +7,7 @@ ghost use Rattle.records.specs.Parts.{ReadyFor, tag_over};
 use crate::keys::Keys;
 use crate::{flags, record};
 use buffers::{numbers, parts};
+use cipher::tables::Tables;
 
 fn put_metadata(data_size: u32, flags: u32, iv: [u8; 8], dst: &mut [u8])
     requires { 20 ≤ length dst.old }
@@ -39,8 +40,8 @@ impl Keys<'_> {
     {
         dst.copy_from_slice(src);
         if flags::require_confidentiality(flags) {
-            let key = cipher::kdf::derive_encryption_key(self.tables, self.device, self.name);
-            cipher::ctr::crypt(self.tables, key, iv, dst);
+            let key = cipher::kdf::derive_encryption_key(self.device, self.name);
+            cipher::ctr::crypt(&Tables::new(), key, iv, dst);
         }
     }
 

@@ -104,15 +104,15 @@ pub fn held_status(
     offset_status(stored, offset)
 }
 
-// The device key, prepared where the record's flags ask for keys. `accepted_record` and `get` each write out the tables, this key and the `Keys` that lend both:
-// a function that made all three could not hand out what it lends, and one that took the rest as a closure is no plainer.
-fn key_for(tables: &Tables, device_key: &[u8], stored: Record<'_>) -> DeviceKey
+// The device key, prepared where the record's flags ask for keys. `accepted_record` and `get` each write out this key and the `Keys` that lend it: a function that
+// made both could not hand out what it lends, and one that took the rest as a closure is no plainer.
+fn key_for(device_key: &[u8], stored: Record<'_>) -> DeviceKey
     requires { length device_key.now ≡ 16 }
     ensures key_value { result.key ≡ device_key.now }
     ensures ready_for { ReadyFor (flags_of stored.entry.bytes.now) result }
 {
     let wanted = flag::needs_keys(stored.flags());
-    kdf::prepare_if(wanted, tables, parts::array::<16>(device_key))
+    kdf::prepare_if(wanted, &Tables::new(), parts::array::<16>(device_key))
 }
 
 // What a get decides of what the name has: the record, where nothing refuses it.
@@ -127,10 +127,8 @@ fn accepted_record<'a>(
     ensures stored { IfOk result (λ r. given held.entry.stored ≡ some r.bytes.now) }
 {
     let stored = keyless_status(held.stored, held.tag.is_some())?;
-    let tables = Tables::new();
-    let device = key_for(&tables, device_key, stored);
+    let device = key_for(device_key, stored);
     let keys = Keys {
-        tables: &tables,
         device: &device,
         name,
     };
@@ -216,7 +214,7 @@ fn get_found(
     get_record(keys, offset, stored, tag, output)
 }
 
-// A get once 1 to 3 have passed, with the tables and the device key lent, for who reads many names of one card.
+// A get once 1 to 3 have passed, with the device key lent, for who reads many names of one card.
 pub fn get_prepared(
     keys: &Keys,
     kv: &[u8],
@@ -246,10 +244,8 @@ pub fn get(
     early_status(kv, rbp, device_key, name)?;
     let held = judge::look_up(kv, rbp, name).held;
     let stored = keyless_status(held.stored, held.tag.is_some())?;
-    let tables = Tables::new();
-    let device = key_for(&tables, device_key, stored);
+    let device = key_for(device_key, stored);
     let keys = Keys {
-        tables: &tables,
         device: &device,
         name,
     };

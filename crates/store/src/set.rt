@@ -111,15 +111,13 @@ pub fn space_status(
     Ok(())
 }
 
-// The record of the arguments. The tables are taken once, and the device key prepared once, where the flags ask for keys.
+// The record of the arguments. The device key is prepared once, where the flags ask for keys.
 fn make_record(device_key: [u8; 16], name: &[u8], flags: u32, iv: [u8; 8], data: &[u8]) -> [u8; 516]
     requires { length «data».now ≤ 480 }
     ensures { result ≡ zero_fill 516 (seal_record device_key name.now flags iv «data».now) }
 {
-    let tables = Tables::new();
-    let device = kdf::prepare_if(flag::needs_keys(flags), &tables, device_key);
+    let device = kdf::prepare_if(flag::needs_keys(flags), &Tables::new(), device_key);
     let keys = Keys {
-        tables: &tables,
         device: &device,
         name,
     };
