@@ -1,4 +1,4 @@
--- What the steps of the program do with its buffers. Which bytes the C library reads and writes, no contract can say.
+-- What the steps of the program do with its buffers. Which bytes the system reads and writes, no contract can say.
 --   text, unused, Taken     a line takes of what was read and not used as `gather` does
 --   Waits                   nothing was taken, and a read is awaited
 --   RoomMade, Appended      an answer stands behind those that are to be written, or it is the first where there was no room for it behind them

@@ -1,8 +1,8 @@
 // The player: a script is read from a reader, and each answer is written to a writer.
 //
-// No contract can say what the system reads or writes. What is proved here is that every function is safe and ends, and what the steps between
-// such calls do with the buffers (`specs/Turns`). What the bytes mean is proved in `script_replay`: `gather` cuts what was read into lines, `read_header`
-// reads the first, `step` carries out each other and makes its answer.
+// No contract can say what the system reads or writes; of a reader and a writer whose bytes are known, `refill` and `flush` say which they move. What is
+// proved here is that every function is safe and ends, and what the steps between such calls do with the buffers (`specs/Turns`). What the bytes mean is
+// proved in `script_replay`: `gather` cuts what was read into lines, `read_header` reads the first, `step` carries out each other and makes its answer.
 #![tactic(auto)]
 
 mod input;
@@ -10,7 +10,7 @@ mod line;
 mod output;
 mod player;
 
-ghost use Rattle.std.specs.Prelude.{◌≤◌};
+ghost use Rattle.std.specs.Prelude.{◌≡◌, ◌≤◌};
 
 use player::Player;
 use std::io;
@@ -25,6 +25,20 @@ enum Fault {
     Read,
 }
 
+impl Fault {
+    // The exit status that is wanted.
+    fn status(self) -> u32
+        ensures write { self ≡ Fault.Write → result ≡ 1 }
+        ensures read { self ≡ Fault.Read → result ≡ 2 }
+        ensures upper_bound { result ≤ 2 }
+    {
+        match self {
+            Fault::Write => 1,
+            Fault::Read => 2,
+        }
+    }
+}
+
 // From any reader to any writer. 0 where the script was read to its end, or its first line is bad; 1 where the answers can't be written; 2 where the script
 // can't be read: a number still, since the README names it and C is told it.
 pub fn play_script<R: io::Read + Drop, W: io::Write + Drop>(input: R, output: W) -> u32
@@ -32,7 +46,6 @@ pub fn play_script<R: io::Read + Drop, W: io::Write + Drop>(input: R, output: W)
 {
     match Player::new(input, output).play() {
         Ok(()) => 0,
-        Err(Fault::Write) => 1,
-        Err(Fault::Read) => 2,
+        Err(fault) => fault.status(),
     }
 }

@@ -17,7 +17,7 @@ pub(crate) struct Output<W> {
 }
 
 impl<W: io::Write> Output<W> {
-    ghost use Rattle.std.specs.Prelude.{◌≡◌, ◌≤◌, length, take, IfErr, OnOk};
+    ghost use Rattle.std.specs.Prelude.{◌≡◌, ◌≤◌, length, take, IsOk, IfErr, OnOk};
     ghost use Rattle.std.specs.Io.KnownBytes.{Appends};
     ghost use Rattle.replay.specs.Turns.{RoomMade, Appended};
 
@@ -29,7 +29,7 @@ impl<W: io::Write> Output<W> {
         }
     }
 
-    // What is to be written is written.
+    // What is to be written is written, also by a writer that keeps bytes back.
     pub(crate) fn flush(&mut self) -> Result<(), Fault>
         ensures ok { OnOk result (self.new.used ≡ 0) }
         ensures bytes { OnOk result (Appends (W.contents self.old.writer) (W.contents self.new.writer) (take self.old.used self.old.answers)) }
@@ -39,13 +39,15 @@ impl<W: io::Write> Output<W> {
         self.writer
             .write_all(&self.answers[..self.used])
             .map_err(|_| Fault::Write)?;
+        self.writer.flush().map_err(|_| Fault::Write)?;
         self.used = 0;
         Ok(())
     }
 
-    // Room for one more answer.
+    // Room for one more answer. Nothing is written where there is some.
     fn make_room(&mut self) -> Result<(), Fault>
         ensures ok { OnOk result (RoomMade self.old self.new) }
+        ensures room { self.old.used ≤ 64512 → IsOk result }
         ensures answers { self.new.answers ≡ self.old.answers }
         ensures err { IfErr result (λ e. e ≡ Fault.Write) }
     {
@@ -59,6 +61,7 @@ impl<W: io::Write> Output<W> {
     pub(crate) fn put(&mut self, answer: &[u8]) -> Result<(), Fault>
         requires { length answer.now ≤ 1024 }
         ensures ok { OnOk result (Appended self.old self.new answer.now) }
+        ensures room { self.old.used ≤ 64512 → IsOk result }
         ensures err { IfErr result (λ e. e ≡ Fault.Write) }
     {
         self.make_room()?;

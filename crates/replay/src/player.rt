@@ -34,6 +34,8 @@ impl<R: io::Read, W: io::Write> Player<R, W> {
         ensures taken { self.old.input.from < self.old.input.to → IfOk result (Taken self.old.input self.new.input self.old.line self.new.line) }
         ensures answers { self.old.input.from < self.old.input.to → IsOk result × (self.new.output ≡ self.old.output) }
         ensures waits { self.old.input.to ≤ self.old.input.from → Waits result self.old.line self.new.line }
+        ensures flushed { self.old.input.to ≤ self.old.input.from → OnOk result (self.new.output.used ≡ 0) }
+        ensures kept { self.new.output.answers ≡ self.old.output.answers }
     {
         if self.input.to <= self.input.from {
             self.output.flush()?;
@@ -46,7 +48,8 @@ impl<R: io::Read, W: io::Write> Player<R, W> {
     // Up to a newline or the end of the input: whether there is one more. What came before a read that failed is none. A proved loop has to end, and nothing
     // says that a line does: so its turns are as many as no run uses up.
     fn next_line(&mut self) -> Result<bool, Fault>
-        ensures { IfOk result (λ there. there ≡ false → text self.new.line ≡ []) }
+        ensures line { IfOk result (λ there. there ≡ false → text self.new.line ≡ []) }
+        ensures kept { self.new.output.answers ≡ self.old.output.answers }
     {
         self.line.len = 0;
         let mut whole = false;
@@ -63,6 +66,7 @@ impl<R: io::Read, W: io::Write> Player<R, W> {
     fn play_line(&mut self, kv: &mut [u8], rbp: &mut [u8], device_key: &[u8]) -> Result<(), Fault>
         ensures input { self.new.input ≡ self.old.input }
         ensures appended { OnOk result (Appended self.old.output self.new.output (step kv.old rbp.old device_key.now (text self.old.line)).answer) }
+        ensures room { self.old.output.used ≤ 64512 → IsOk result }
         ensures rbp_after { record { kv = kv.new; rbp = rbp.new } ≡ (step kv.old rbp.old device_key.now (text self.old.line)).after }
     {
         let mut answer = [0u8; ANSWER_SIZE];
@@ -91,6 +95,7 @@ impl<R: io::Read, W: io::Write> Player<R, W> {
     fn play_unreadable(&mut self) -> Result<(), Fault>
         ensures input { self.new.input ≡ self.old.input }
         ensures appended { OnOk result (Appended self.old.output self.new.output (answer_line err_syntax [])) }
+        ensures room { self.old.output.used ≤ 64512 → IsOk result }
     {
         let mut answer = [0u8; ANSWER_SIZE];
         let n = answer::put_unreadable(&mut answer);
