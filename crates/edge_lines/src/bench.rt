@@ -14,9 +14,9 @@ pub const CHIP: usize = 37960;
 // Card and chip together.
 pub const MEDIA: usize = 43290;
 
-const REGISTERS: usize = 216450;
+pub const REGISTERS: usize = 216450;
 
-const MEMORY: usize = 228738;
+pub const MEMORY: usize = 228738;
 
 // The registers of a line's arguments come first; the name of a call that is tried stands in the first of them. Numbers and no enum: an argument's place
 // is one too.
@@ -92,7 +92,7 @@ pub fn place_at(place: Place) -> usize {
 }
 
 // Where a copy begins.
-fn copy_at(copy: usize) -> usize
+pub fn copy_at(copy: usize) -> usize
     ensures { result ≤ 173160 }
 {
     MEDIA + copy % 4 * MEDIA

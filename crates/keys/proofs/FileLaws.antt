@@ -13,7 +13,7 @@ use Rattle.keys.specs.Reader.{Taken, read_material}
 use Rattle.keys.specs.Laws.{Fits, WellFormed, WrittenFile, FileLayout, ParseExact, ReaderExact}
 use Rattle.keys.specs.declared.key_file.KeyAttributes.{KeyAttributes}
 use Rattle.keys.specs.declared.parse.Header.{Header}
-use Rattle.keys.proofs.Header.{header-there, header-long, header-marked, header_read, header-refused, is_well_formed, parse_done, parse_refused}
+use Rattle.keys.proofs.Header.{header-there, header-long, header-marked, header_read, header-refused, reads-on, is_well_formed, parse_done, parse_refused}
 use Rattle.keys.proofs.Written.{file-length}
 use Rattle.buffers.proofs.Split.{split}
 use Rattle.std.specs.Prelude.{Ok, IsOk}
@@ -128,4 +128,5 @@ reader-exact = record {
   fields = header_read;
   material = λ file e. rw (header_read file e);
   refused = λ file n. header-refused file (λ e. n (header-long file e, header-marked file e));
+  read_on = reads-on;
 }

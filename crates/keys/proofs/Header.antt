@@ -1,9 +1,10 @@
 -- The header read one field after the other is the header by offsets, where there is one; where there is none, the reader does not come to place 36.
 -- Assumes nothing.
 use mathlib.Core.Path.{◌≡◌, refl, sym, ap, subst, ◌∙◌}
+use mathlib.Core.Logic.{◌↔◌}
 use mathlib.Core.Bool.{Bool, true, false, ◌&&◌}
 use mathlib.Core.List.{List}
-use Prim.Native.Nat.{ℕ, ◌+◌, ◌≤◌, ◌<◌}
+use Prim.Native.Nat.{ℕ, zero, suc, ◌+◌, ◌*◌, ◌≤◌, ◌<◌}
 use native.Mathlib.Omega.{arith}
 use borrow.Author.Tests.{leb-true, le-leb, eqb-true, eq-eqb}
 use lib.ListN.{length, take, drop}
@@ -15,7 +16,7 @@ use Rattle.buffers.specs.Bytes.{bytes_eq, u32_at}
 use Rattle.buffers.proofs.Split.{split, both, clash}
 use Rattle.buffers.proofs.Bytes.{bytes_eq-eq, eq-bytes_eq}
 use Rattle.keys.specs.KeyFile.{mark, attributes_of, version_of, material_length_of, key_file_valid, parse_key_file}
-use Rattle.keys.specs.Reader.{Taken, has_bytes, taken_at, mark_at, field_at, part_at, carried_on, ◌then◌, header_at, read_header}
+use Rattle.keys.specs.Reader.{Taken, has_bytes, taken_at, mark_at, field_at, part_at, carried_on, ◌then◌, header_at, read_header, read_on}
 use Rattle.keys.specs.Laws.{WellFormed}
 use Rattle.keys.specs.declared.parse.Header.{Header}
 use Rattle.keys.specs.declared.reader.KeyFileReader.{KeyFileReader}
@@ -142,6 +143,79 @@ module _ (file : Bor (List ℕ)) where
 
   pub header-refused : ((read_header file).after.pos ≡ 36 → ⊥) → (read_header file).answer ≡ Err InvalidKeyFile
   header-refused = come-refused (read_header file).answer (read_header file).after (header-comes (at_place 0))
+
+-- ---- the header of a file, read on after a refused step
+
+-- where steps of n bytes that began at r leave the reader, whatever they answered: at most n bytes on, and not past the end
+abbrev Within : KeyFileReader → ℕ → KeyFileReader → Type 0
+Within r n s = (s.file ≡ r.file) × (s.pos ≤ r.pos + n) × (r.pos ≤ length r.file.now → s.pos ≤ length r.file.now)
+
+taken-within : {A : Type 0} (b : Bool) (r : KeyFileReader) (n : ℕ) (value : A) → (b ≡ true → has_bytes r n ≡ true) → Within r n (taken_at b r n value).after
+unfolding taken_at
+taken-within true r n value e = (refl, omega arith, λ h. has_end r n (e refl))
+taken-within false r n value e = (refl, omega arith, λ h. h)
+
+field-within : (r : KeyFileReader) → Within r 4 (field_at r).after
+unfolding field_at
+field-within r = taken-within (has_bytes r 4) r 4 (u32_at r.file.now r.pos) (λ e. e)
+
+mark-within : (r : KeyFileReader) → Within r 8 (mark_at r).after
+unfolding mark_at
+mark-within r =
+    let same = bytes_eq (take 8 (drop r.pos r.file.now)) mark in
+    taken-within (has_bytes r 8 && same) r 8 tt (λ e. (both (has_bytes r 8) same e).0)
+
+-- the reader after k fields
+abbrev fields_on : ℕ → KeyFileReader → KeyFileReader
+fields_on zero r = r
+fields_on (suc k) r = fields_on k (field_at r).after
+
+fields-within : (k : ℕ) (r : KeyFileReader) → Within r (4 * k) (fields_on k r)
+fields-within zero r = (refl, omega arith, λ h. h)
+fields-within (suc k) r =
+    let first = field-within r in
+    let rest = fields-within k (field_at r).after in
+    let size = ap (λ (x : Bor (List ℕ)). length x.now) first.0 in (
+      rest.0 ∙ first.0,
+      omega (arith, first.1, rest.1),
+      λ h. let near = first.2 h in let far = rest.2 (omega arith) in omega arith,
+    )
+
+module _ (file : Bor (List ℕ)) where
+  on-is : (read_on file).pos ≡ (fields_on 7 (mark_at (at_place file 0)).after).pos
+  on-is = refl
+
+  fields-there : (k p : ℕ) (r : KeyFileReader) → r ≡ at_place file p → p + 4 * k ≤ length file.now → (fields_on k r).pos ≡ p + 4 * k
+  fields-there zero p r e h = ap (λ (x : KeyFileReader). x.pos) e ∙ omega arith
+  fields-there (suc k) p r e h =
+      let there = (steps-exact.of_field (at_place file p)).done (omega arith) in
+      let next = ap (λ (x : KeyFileReader). (field_at x).after) e ∙ ap (λ (t : Taken ℕ). t.after) there in
+      omega (arith, fields-there k (p + 4) (field_at r).after next (omega arith))
+
+  on-there : 36 ≤ length file.now → take 8 file.now ≡ mark → (read_on file).pos ≡ 36
+  on-there h e =
+      let m = (steps-exact.of_mark (at_place file 0)).done (omega arith, e) in
+      on-is ∙ fields-there 7 8 (mark_at (at_place file 0)).after (ap (λ (t : Taken (Unit {0})). t.after) m) h
+
+  on-long : (read_on file).pos ≡ 36 → 36 ≤ length file.now
+  on-long e =
+      let first = mark-within (at_place file 0) in
+      let rest = fields-within 7 (mark_at (at_place file 0)).after in
+      let size = ap (λ (x : Bor (List ℕ)). length x.now) first.0 in
+      let near = first.2 (omega arith) in
+      let far = rest.2 (omega arith) in
+      omega (arith, on-is)
+
+  mark-left : bytes_eq (take 8 file.now) mark ≡ false → (mark_at (at_place file 0)).after.pos ≡ 0
+  mark-left e =
+      rw ((steps-exact.of_mark (at_place file 0)).refused (λ h. clash (bytes_eq (take 8 file.now) mark) (eq-bytes_eq (take 8 file.now) mark h.1) e))
+
+  on-marked : (read_on file).pos ≡ 36 → take 8 file.now ≡ mark
+  on-marked e = split (bytes_eq (take 8 file.now) mark) (λ h. bytes_eq-eq (take 8 file.now) mark h)
+      (λ h. absurd (omega (arith, on-is, (fields-within 7 (mark_at (at_place file 0)).after).1, mark-left h)))
+
+  pub reads-on : ((read_on file).pos ≡ 36) ↔ ((36 ≤ length file.now) × (take 8 file.now ≡ mark))
+  reads-on = (λ e. (on-long e, on-marked e), λ h. on-there h.0 h.1)
 
 -- ---- the file judged
 

@@ -15,7 +15,7 @@ use Rattle.spec.specs.Demand2.{Readable, opened, Stores}
 use Rattle.spec.specs.Shapes.{AreBytes}
 use Rattle.store.specs.declared.status.Refusal.TheVariants.{InvalidKeyFile}
 use Rattle.keys.specs.KeyFile.{mark, format_key_file, parse_key_file, file_answer}
-use Rattle.keys.specs.Reader.{Taken, mark_at, field_at, part_at, read_header, read_material}
+use Rattle.keys.specs.Reader.{Taken, mark_at, field_at, part_at, read_header, read_material, read_on}
 use Rattle.keys.specs.declared.reader.KeyFileReader.{KeyFileReader}
 use Rattle.keys.specs.Calls.{write_key_file, save_key, load_key}
 use Rattle.keys.specs.declared.key_file.KeyAttributes.{KeyAttributes}
@@ -85,6 +85,8 @@ pub record ReaderExact : Type 0 where
   pub material : (file : Bor (List ℕ)) → (read_header file).after.pos ≡ 36
       → read_material file ≡ part_at (record { file = file; pos = 36 }) (u32_at file.now 32)
   pub refused : (file : Bor (List ℕ)) → (¬ ((36 ≤ length file.now) × (take 8 file.now ≡ mark))) → (read_header file).answer ≡ Err InvalidKeyFile
+  -- who reads on after a refused step comes to place 36 in just the same files
+  pub read_on : (file : Bor (List ℕ)) → ((read_on file).pos ≡ 36) ↔ ((36 ≤ length file.now) × (take 8 file.now ≡ mark))
 
 -- a step that takes n bytes: done where its fact holds, with its value and the reader behind them; else 13, no value, and the reader as it was
 pub record Step {A : Type 0} (r : KeyFileReader) (n : ℕ) (value : A) (fact : Type 0) (t : Taken A) : Type 0 where

@@ -81,3 +81,8 @@ read_header file = header_at (reader_of file)
 
 unfoldable pub read_material : Bor (List ℕ) → Taken (Bor (List ℕ))
 read_material file = read_header file then λ header r. part_at r header.material_len
+
+-- the reader after the mark and seven fields, whatever each step answered
+abbrev pub read_on : Bor (List ℕ) → KeyFileReader
+read_on file =
+    (field_at (field_at (field_at (field_at (field_at (field_at (field_at (mark_at (reader_of file)).after).after).after).after).after).after).after).after
