@@ -2,17 +2,15 @@
 use mathlib.Core.Path.{◌≡◌, refl, sym, ap, ◌∙◌}
 use mathlib.Core.Bool.{true, false}
 use mathlib.Core.List.{List, [], ◌∷◌, ◌++◌}
-use Prim.Native.Nat.{ℕ, zero, suc, ◌+◌, ◌*◌, ◌/◌, ◌%◌, ◌≤◌, ◌<◌}
+use Prim.Native.Nat.{ℕ, zero, suc, ◌+◌, ◌-◌, ◌*◌, ◌/◌, ◌%◌, ◌≤◌, ◌<◌}
 use native.Mathlib.Numerals.{add-one}
 use native.Mathlib.Omega.{arith}
 use borrow.Author.Tests.{ltb-true, le-leb, lt-leb, eq-eqb, ne_eqb}
 use lib.Dec.{eqb}
 use lib.ListN.{length, get_or, take, drop, set}
 use lib.Seq.{drop-cons, append_snoc, take-suc-set, drop-set-lt, lt-length-set, drop-drop}
-use Rattle.std.specs.Char.{digit_value, is_ascii_hexdigit}
+use Rattle.std.specs.Char.{is_ascii_hexdigit}
 use Rattle.std.specs.List.{list_all}
-use Rattle.std.specs.Option.{unwrap_or}
-use Rattle.std.specs.Prelude.{Option, Some, None, SomeIff}
 use Rattle.std.proofs.lemmas.Bool.Decides.{nat_tests}
 use Rattle.text.specs.Hex.{within, hex_value, is_hex_digit, all_hex_digits, is_hex, hex_bytes, hex_digit, hex_text}
 use Rattle.text.proofs.Split.{both, and-false}
@@ -28,23 +26,32 @@ within-below low high c p = rw (lt-leb low c p)
 pub within-above : (low high c : ℕ) → low ≤ high → high < c → within low high c ≡ false
 within-above low high c o p = rw (le-leb low c (omega arith), lt-leb c high p)
 
--- what the library reads, which has digits up to z
-module _ (c : ℕ) where
-  digit-read : digit_value c < 16 → digit_value c ≡ hex_value c
-  unfolding hex_value
-  digit-read h = grind (arith, nat_tests)
-
-  none-read : ¬ (digit_value c < 16) → 16 ≡ hex_value c
-  unfolding hex_value
-  none-read h = grind (arith, nat_tests)
-
-  pub value-read : (o : Option ℕ) → SomeIff o (digit_value c < 16) (digit_value c) → unwrap_or o 16 ≡ hex_value c
-  value-read None h = none-read h
-  value-read (Some d) h = h.1 ∙ digit-read h.0
-
 pub value-below : (c : ℕ) → c < 0x30 → hex_value c ≡ 16
 unfolding hex_value
 value-below c h = rw (within-below 0x30 0x39 c (omega arith), within-below 0x41 0x46 c (omega arith), within-below 0x61 0x66 c (omega arith))
+
+pub value-decimal : (c : ℕ) → 0x30 ≤ c → c ≤ 0x39 → hex_value c ≡ c - 0x30
+unfolding hex_value
+value-decimal c h k = rw (within_true 0x30 0x39 c h k)
+
+pub value-between : (c : ℕ) → 0x39 < c → c < 0x41 → hex_value c ≡ 16
+unfolding hex_value
+value-between c h k =
+    rw (within-above 0x30 0x39 c (omega arith) (omega arith), within-below 0x41 0x46 c (omega arith), within-below 0x61 0x66 c (omega arith))
+
+pub value-upper : (c : ℕ) → 0x41 ≤ c → c ≤ 0x46 → hex_value c ≡ c - 0x37
+unfolding hex_value
+value-upper c h k = rw (within-above 0x30 0x39 c (omega arith) (omega arith), within_true 0x41 0x46 c h k)
+
+pub value-between-cases : (c : ℕ) → 0x46 < c → c < 0x61 → hex_value c ≡ 16
+unfolding hex_value
+value-between-cases c h k =
+    rw (within-above 0x30 0x39 c (omega arith) (omega arith), within-above 0x41 0x46 c (omega arith) (omega arith), within-below 0x61 0x66 c (omega arith))
+
+pub value-lower : (c : ℕ) → 0x61 ≤ c → c ≤ 0x66 → hex_value c ≡ c - 0x57
+unfolding hex_value
+value-lower c h k =
+    rw (within-above 0x30 0x39 c (omega arith) (omega arith), within-above 0x41 0x46 c (omega arith) (omega arith), within_true 0x61 0x66 c h k)
 
 pub value-above : (c : ℕ) → 0x66 < c → hex_value c ≡ 16
 unfolding hex_value

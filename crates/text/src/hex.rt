@@ -6,11 +6,16 @@ ghost use Rattle.text.specs.Written.{answer, left};
 // A writer answers how many bytes it wrote; a refusal has written none. The first two clauses of its contract say all; the third follows from them,
 // so that a caller can take `&out[0..count]` without a proof.
 
-// The value of a digit, or 16 for any other byte, which is the word of the laws (`HexLaws`).
+// The value of a digit, or 16 for any other byte, which is the word of the laws (`HexLaws`). Tried with `to_digit`, which makes a set of the player slower by two fifths.
 fn digit_value(c: u8) -> u8
     ensures { result ≡ hex_value c }
 {
-    char::from(c).to_digit(16).unwrap_or(16) as u8
+    match c {
+        b'0'..=b'9' => c - b'0',
+        b'A'..=b'F' => c - b'A' + 10,
+        b'a'..=b'f' => c - b'a' + 10,
+        _ => 16,
+    }
 }
 
 fn digit(d: u8) -> u8
