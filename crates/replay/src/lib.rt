@@ -9,11 +9,15 @@ mod input;
 mod line;
 mod output;
 mod player;
+#[cfg(test)]
+mod tests;
+mod unflushed;
 
 ghost use Rattle.std.specs.Prelude.{◌≡◌, ◌≤◌};
 
 use player::Player;
 use std::io;
+use unflushed::Unflushed;
 
 // Both buffers have as many bytes.
 const BUFFER_SIZE: usize = 65536;
@@ -39,13 +43,21 @@ impl Fault {
     }
 }
 
-// From any reader to any writer. 0 where the script was read to its end, or its first line is bad; 1 where the answers can't be written; 2 where the script
-// can't be read: a number still, since the README names it and C is told it.
-pub fn play_script<R: io::Read + Drop, W: io::Write + Drop>(input: R, output: W) -> u32
+// From any reader to any writer, which is flushed whenever a read is awaited and at the end: a flush that fails is an answer that can't be written. 0 where the
+// script was read to its end, or its first line is bad; 1 where the answers can't be written; 2 where the script can't be read: a number still, since the README
+// names it and C is told it.
+pub fn play_script_flushed<R: io::Read + Drop, W: io::Write + Drop>(input: R, output: W) -> u32
     ensures { result ≤ 2 }
 {
     match Player::new(input, output).play() {
         Ok(()) => 0,
         Err(fault) => fault.status(),
     }
+}
+
+// The same to a writer that is not flushed. Whoever lends one that keeps bytes back lends it by `&mut`, and flushes it afterwards.
+pub fn play_script<R: io::Read + Drop, W: io::Write + Drop>(input: R, output: W) -> u32
+    ensures { result ≤ 2 }
+{
+    play_script_flushed(input, Unflushed { writer: output })
 }
