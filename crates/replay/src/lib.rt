@@ -43,9 +43,9 @@ impl Fault {
     }
 }
 
-// From any reader to any writer, which is flushed before each read and whenever answers are written: a flush that fails is an answer that can't be written. 0
-// where the script was read to its end, or its first line is bad; 1 where the answers can't be written; 2 where the script can't be read: a number still, since
-// the README names it and C is told it.
+// From any reader to any writer, which is flushed before each read, whenever answers are written, and at the end: a flush that fails is an answer that can't be
+// written. 0 where the script was read to its end, or its first line is bad; 1 where the answers can't be written; 2 where the script can't be read: a number
+// still, since the README names it and C is told it.
 pub fn play_script_flushed<R: io::Read + Drop, W: io::Write + Drop>(input: R, output: W) -> u32
     ensures { result ≤ 2 }
 {
@@ -55,7 +55,7 @@ pub fn play_script_flushed<R: io::Read + Drop, W: io::Write + Drop>(input: R, ou
     }
 }
 
-// The same to a writer that is not flushed. Whoever lends one that keeps bytes back lends it by `&mut`, and flushes it afterwards.
+// The same to a writer that is not flushed. Whoever has one that keeps bytes back lends it by `&mut`, and flushes it afterwards.
 pub fn play_script<R: io::Read + Drop, W: io::Write + Drop>(input: R, output: W) -> u32
     ensures { result ≤ 2 }
 {
