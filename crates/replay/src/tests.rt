@@ -3,22 +3,14 @@ use crate::{play_script, play_script_flushed};
 use std::io;
 use std::test::Fail;
 
-// As many bytes as the answers have.
 #[derive(Drop)]
-struct NeverFlushed {
-    bytes: [u8; 13],
-    len: usize,
+struct NeverFlushed<'a> {
+    room: &'a mut [u8],
 }
 
-impl io::Write for NeverFlushed {
+impl io::Write for NeverFlushed<'_> {
     fn write(&mut self, buf: &[u8]) -> io::Result<usize> {
-        let Some(room) = self.bytes.get_mut(self.len..) else {
-            return Ok(0);
-        };
-        let n = buf.len().min(room.len());
-        room[..n].copy_from_slice(&buf[..n]);
-        self.len += n;
-        Ok(n)
+        self.room.write(buf)
     }
 
     fn flush(&mut self) -> io::Result<()> {
@@ -26,22 +18,18 @@ impl io::Write for NeverFlushed {
     }
 }
 
-const EMPTY: NeverFlushed = NeverFlushed {
-    bytes: [0; 13],
-    len: 0,
-};
-
 // 02, No. 6: its example.
 const SCRIPT: &[u8] =
     b"2b7e151628aed2a6abf7158809cf4f3c\t1\nset\ta\t0\t0000000000000000\t4142\nget\ta\nremove\tb\n";
 
 #[test]
 fn a_writer_that_is_not_flushed_has_all_answers() -> Result<(), Fail> {
-    let mut output = EMPTY;
-    if play_script(SCRIPT, &mut output) != 0 {
+    let mut answers = [0u8; 13];
+    let output = NeverFlushed { room: &mut answers };
+    if play_script(SCRIPT, output) != 0 {
         return Err("another status than 0")?;
     }
-    if output.bytes != *b"0\t\n0\t4142\n6\t\n" {
+    if answers != *b"0\t\n0\t4142\n6\t\n" {
         return Err("other answers")?;
     }
     Ok(())
@@ -49,8 +37,9 @@ fn a_writer_that_is_not_flushed_has_all_answers() -> Result<(), Fail> {
 
 #[test]
 fn a_flush_that_fails_is_told() -> Result<(), Fail> {
-    let mut output = EMPTY;
-    if play_script_flushed(SCRIPT, &mut output) != 1 {
+    let mut answers = [0u8; 13];
+    let output = NeverFlushed { room: &mut answers };
+    if play_script_flushed(SCRIPT, output) != 1 {
         return Err("another status than 1")?;
     }
     Ok(())

@@ -8,7 +8,6 @@ pub(crate) struct Unflushed<W> {
 
 impl<W: io::Write> io::Write for Unflushed<W> {
     ghost use Rattle.std.specs.Prelude.{◌≡◌, IsOk};
-    ghost use Rattle.std.specs.Io.KnownBytes.{Keeps};
 
     ghost contents = { λ w. W.contents w.writer };
 
@@ -17,7 +16,6 @@ impl<W: io::Write> io::Write for Unflushed<W> {
     }
 
     fn flush(&mut self) -> io::Result<()>
-        ensures bytes { Keeps (W.contents self.old.writer) (W.contents self.new.writer) }
         ensures ok { IsOk result }
         ensures unchanged { self.new ≡ self.old }
     {
